@@ -3,7 +3,7 @@ use Rattle.std.proofs.Common.{◌≡◌, ℕ, Bool, true, false, List, [], ◌�
 use Rattle.std.specs.Prelude.{◌==◌, if◌then◌else◌, ⊤}
 use Rattle.std.specs.List.{list_all}
 use Rattle.std.proofs.lemmas.Bool.Decides.{nat_tests}
-use Rattle.asm_grammar.specs.Text.{after, front_of, behind}
+use Rattle.asm_grammar.specs.Text.{behind_byte, front_of, behind}
 use Rattle.asm_grammar.proofs.Spelled.{both}
 
 -- the text begins with one that says x, and the rest stands after it
@@ -58,14 +58,14 @@ pub eq_of : (a b : ℕ) → (a == b) ≡ true → a ≡ b
 eq_of a b e = grind (arith, nat_tests)
 
 -- the text begins with the byte that was looked for
-pub after_splits : (byte : ℕ) (text r : List ℕ) → after byte text ≡ Some r → text ≡ byte ∷ r
-unfolding after
+pub after_splits : (byte : ℕ) (text r : List ℕ) → behind_byte byte text ≡ Some r → text ≡ byte ∷ r
+unfolding behind_byte
 after_splits byte [] r e = absurd (cc)
 after_splits byte (first ∷ rest) r e = after_by byte first rest r (first == byte) (eq_of first byte) e
 
 itself : (n : ℕ) → (n == n) ≡ true
 itself n = grind (arith, nat_tests)
 
-pub after_itself : (byte : ℕ) (rest : List ℕ) → after byte (byte ∷ rest) ≡ Some rest
-unfolding after
+pub after_itself : (byte : ℕ) (rest : List ℕ) → behind_byte byte (byte ∷ rest) ≡ Some rest
+unfolding behind_byte
 after_itself byte rest = rw (itself byte) refl

@@ -7,8 +7,8 @@ use Rattle.std.proofs.lemmas.List.{append-nil}
 use Rattle.std.proofs.lemmas.Bool.Decides.{nat_tests}
 use Rattle.vax_code.specs.declared.table.Row.{Row}
 use Rattle.vax_code.specs.Table.{all_rows}
-use Rattle.asm_grammar.specs.Text.{◌>>=◌, Text, after, front_of, behind}
-use Rattle.asm_grammar.specs.Numbers.{number_at}
+use Rattle.asm_grammar.specs.Text.{◌>>=◌, Text, behind_byte, front_of, behind}
+use Rattle.asm_grammar.specs.Numbers.{spelled_number_at}
 use Rattle.asm_grammar.specs.Values.{is_label_start, is_word_byte, padded, label_of_word, label_at, value_at}
 use Rattle.asm_grammar.specs.Mnemonics.{mnemonic, row_named, same_text as has_text}
 use Rattle.asm_grammar.specs.Sentences.{ended, is_short, sentence_of}
@@ -38,7 +38,7 @@ whole_value_read x value is =
 whole_number_read : (n : List ℕ) (number : Number) → IsNumber n number → whole_number n ≡ Some number
 unfolding whole_number
 whole_number_read n number is =
-    ap (λ (l : List ℕ). number_at l >>= λ r. ended r.0 r.1) (sym (append-nil n)) ∙ ap (λ (o : Text Number). o >>= λ r. ended r.0 r.1) (number_read n number [] is tt)
+    ap (λ (l : List ℕ). spelled_number_at l >>= λ r. ended r.0 r.1) (sym (append-nil n)) ∙ ap (λ (o : Text Number). o >>= λ r. ended r.0 r.1) (number_read n number [] is tt)
 
 -- a whole text is what its front says
 whole_says : {A : Type 0} {Says : List ℕ → A → Type 0} (text : List ℕ) (x : A) (rest : List ℕ) (y : A) → Begins Says text x rest
@@ -57,7 +57,7 @@ whole_value_says text value e =
 whole_number_says : (text : List ℕ) (number : Number) → whole_number text ≡ Some number → IsNumber text number
 unfolding whole_number
 whole_number_says text number e =
-    let r = bind_some (number_at text) _ number e in
+    let r = bind_some (spelled_number_at text) _ number e in
     whole_says text r.0.0 r.0.1 number (number_says text r.0 r.1) r.2
 
 no_mnemonic_empty : row_named [] ≡ None
@@ -86,7 +86,7 @@ instruction_read text sentence is =
     ∙ ap (λ (o : Option Sentence). o >>= λ s. Some (statements.Instruction s)) (sentence_read text sentence is)
 
 statement_read : (text : List ℕ) (statement : Statement) → IsStatement text statement → statement_of text ≡ Some statement
-unfolding statement_of directive_of directive_by after
+unfolding statement_of directive_of directive_by behind_byte
 statement_read text statement (Byte {x} {value} is) = ap (λ (o : Option Value). o >>= λ v. Some (statements.Byte v)) (whole_value_read x value is)
 statement_read text statement (Word {x} {value} is) = ap (λ (o : Option Value). o >>= λ v. Some (statements.Word v)) (whole_value_read x value is)
 statement_read text statement (Long {x} {value} is) = ap (λ (o : Option Value). o >>= λ v. Some (statements.Long v)) (whole_value_read x value is)
@@ -134,7 +134,7 @@ directive_says_by word text statement false false false false false is_byte is_s
 directive_says : (text : List ℕ) (statement : Statement) → directive_of text ≡ Some statement → IsStatement (46 ∷ text) statement
 unfolding directive_of directive_by
 directive_says text statement e =
-    let rest = bind_some (after 32 (behind is_word_byte text)) _ statement e in
+    let rest = bind_some (behind_byte 32 (behind is_word_byte text)) _ statement e in
     let split : text ≡ front_of is_word_byte text ++ 32 ∷ rest.0 =
     front_split is_word_byte text ∙ ap (λ (l : List ℕ). front_of is_word_byte text ++ l) (after_splits 32 (behind is_word_byte text) rest.0 rest.1) in
     subst (λ (l : List ℕ). IsStatement (46 ∷ l) statement) (sym split)
@@ -163,18 +163,18 @@ abbrev kept : Label → Option (List ℕ) → Text Label
 kept label o = o >>= λ back. Some (label, back)
 
 abbrev before_colon : Text Label → Text Label
-before_colon o = o >>= λ label. kept label.0 (after 58 label.1)
+before_colon o = o >>= λ label. kept label.0 (behind_byte 58 label.1)
 
-no_colon : (t : Bool) (label : Label) (rest : List ℕ) → after 58 rest ≡ None → before_colon (if t then Some (label, rest) else None) ≡ None
+no_colon : (t : Bool) (label : Label) (rest : List ℕ) → behind_byte 58 rest ≡ None → before_colon (if t then Some (label, rest) else None) ≡ None
 no_colon true label rest e = ap (kept label) e
 no_colon false label rest e = refl
 
-no_label_by : (word rest : List ℕ) → after 58 rest ≡ None → before_colon (label_of_word word rest) ≡ None
+no_label_by : (word rest : List ℕ) → behind_byte 58 rest ≡ None → before_colon (label_of_word word rest) ≡ None
 no_label_by [] rest e = refl
 no_label_by (first ∷ more) rest e = no_colon (is_label_start first && nat_le (length (first ∷ more)) 16) (record { bytes = padded (first ∷ more) }) rest e
 
 -- a word without a `:` after it is no label
-no_label : (word rest : List ℕ) → list_all is_word_byte word ≡ true → Ends rest → after 58 rest ≡ None → label_before (word ++ rest) ≡ None
+no_label : (word rest : List ℕ) → list_all is_word_byte word ≡ true → Ends rest → behind_byte 58 rest ≡ None → label_before (word ++ rest) ≡ None
 unfolding label_before label_at
 no_label word rest all ends e =
     let parts = cut is_word_byte word rest all ends in
@@ -208,8 +208,8 @@ statement_line text statement (Bss {n} is) = point_line (codes "bss " ++ n)
 statement_line text statement (Instruction {sentence = sentence} is) = instruction_line text sentence is
 
 label_read_before : (l : List ℕ) (label : Label) (rest : List ℕ) → IsLabel l label → label_before (l ++ 58 ∷ rest) ≡ Some (label, rest)
-unfolding label_before after
-label_read_before l label rest is = ap (λ (o : Text Label). o >>= λ r. after 58 r.1 >>= λ back. Some (r.0, back)) (label_read l label (58 ∷ rest) is refl)
+unfolding label_before behind_byte
+label_read_before l label rest is = ap (λ (o : Text Label). o >>= λ r. behind_byte 58 r.1 >>= λ back. Some (r.0, back)) (label_read l label (58 ∷ rest) is refl)
 
 no_comment : (byte : ℕ) → is_label_start byte ≡ true → (byte == 35) ≡ false
 no_comment byte h = grind (arith, nat_tests)
@@ -251,7 +251,7 @@ label_before_says : (text : List ℕ) (r : Label × List ℕ) → label_before t
 unfolding label_before
 label_before_says text r e =
     let l = bind_some (label_at text) _ r e in
-    let c = bind_some (after 58 l.0.1) _ r l.2 in
+    let c = bind_some (behind_byte 58 l.0.1) _ r l.2 in
     let same : (l.0.0, c.0) ≡ r = some_same _ _ c.2 in
     let b : Begins IsLabel text l.0.0 l.0.1 = label_says text l.0 l.1 in
     subst (λ (q : Label × List ℕ). Begins IsLabel text q.0 (58 ∷ q.1)) same

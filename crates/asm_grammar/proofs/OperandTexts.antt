@@ -4,8 +4,8 @@ use Rattle.std.specs.Prelude.{◌==◌, if◌then◌else◌, codes, ⊤}
 use Rattle.std.specs.Int.{is_in_range}
 use Rattle.std.proofs.lemmas.Bool.Decides.{nat_tests}
 use Rattle.vax_code.proofs.Parsing.{not_pc}
-use Rattle.asm_grammar.specs.Text.{◌>>=◌, Text, after}
-use Rattle.asm_grammar.specs.Numbers.{number_at}
+use Rattle.asm_grammar.specs.Text.{◌>>=◌, Text, behind_byte}
+use Rattle.asm_grammar.specs.Numbers.{spelled_number_at}
 use Rattle.asm_grammar.specs.Values.{is_word_byte}
 use Rattle.asm_grammar.specs.Operands.{second_digit, register_number_at, register_at, in_parentheses_at, incremented, deferred_at, decremented_at, increment_deferred_at, absolute_at, displacement_at, displaced_at, pointer_at, place_at, index_at, indexed, addressed_at, misindexed_at, unaddressed, literal_at, immediate_at, plain_register_at, specifier_at, target_at, operand_at}
 use Rattle.asm_grammar.specs.declared.syntax.Number.{Number}
@@ -35,7 +35,7 @@ one_digit_by k rest false e small ends =
     rw here (ap (λ (n : ℕ). Some (n, rest)) back)
 
 pub register_read : (r : List ℕ) (k : ℕ) (rest : List ℕ) → IsRegister r k → Ends rest → register_at (r ++ rest) ≡ Some (k, rest)
-unfolding register_at after register_number_at
+unfolding register_at behind_byte register_number_at
 register_read r reg rest (OneDigit {k} small) ends = one_digit_by k rest (48 + k == 49) refl small ends
 register_read r reg rest (TwoDigits {k} small) ends =
     let here : is_in_range 48 53 (48 + k) ≡ true = grind (arith, nat_tests) in
@@ -43,10 +43,10 @@ register_read r reg rest (TwoDigits {k} small) ends =
     rw here (ap (λ (n : ℕ). Some (10 + n, rest)) back)
 
 parentheses_read : (p : List ℕ) (k : ℕ) (rest : List ℕ) → IsParenthesised p k → in_parentheses_at (p ++ rest) ≡ Some (k, rest)
-unfolding in_parentheses_at after
+unfolding in_parentheses_at behind_byte
 parentheses_read p k rest (Parentheses {r} is) =
-    ap (λ (l : List ℕ). register_at l >>= λ reg. after 41 reg.1 >>= λ rest. Some (reg.0, rest)) (append_assoc r (codes ")") rest)
-    ∙ ap (λ (o : Text ℕ). o >>= λ reg. after 41 reg.1 >>= λ rest. Some (reg.0, rest)) (register_read r k (41 ∷ rest) is refl)
+    ap (λ (l : List ℕ). register_at l >>= λ reg. behind_byte 41 reg.1 >>= λ rest. Some (reg.0, rest)) (append_assoc r (codes ")") rest)
+    ∙ ap (λ (o : Text ℕ). o >>= λ reg. behind_byte 41 reg.1 >>= λ rest. Some (reg.0, rest)) (register_read r k (41 ∷ rest) is refl)
 
 -- a `(` stands first
 opened : (p : List ℕ) (k : ℕ) (rest : List ℕ) → IsParenthesised p k
@@ -72,9 +72,9 @@ not_incremented k (byte ∷ rest) h = rw h.1 refl
 
 displacement_read : (n p : List ℕ) (size k : ℕ) (number : Number) (deferred : Bool) (rest : List ℕ) → IsNumber n number → IsParenthesised p k
     → displacement_at size deferred (94 ∷ ((n ++ p) ++ rest)) ≡ Some (places.Disp size k number deferred, rest)
-unfolding displacement_at after
+unfolding displacement_at behind_byte
 displacement_read n p size k number deferred rest is reg =
-    ap (λ (l : List ℕ). number_at l >>= λ by. in_parentheses_at by.1 >>= λ reg. Some (places.Disp size reg.0 by.0 deferred, reg.1)) (append_assoc n p rest)
+    ap (λ (l : List ℕ). spelled_number_at l >>= λ by. in_parentheses_at by.1 >>= λ reg. Some (places.Disp size reg.0 by.0 deferred, reg.1)) (append_assoc n p rest)
     ∙ ap (λ (o : Text Number). o >>= λ by. in_parentheses_at by.1 >>= λ reg. Some (places.Disp size reg.0 by.0 deferred, reg.1))
     (number_read n number (p ++ rest) is (opened p k rest reg).3)
     ∙ ap (λ (o : Text ℕ). o >>= λ reg. Some (places.Disp size reg.0 number deferred, reg.1)) (parentheses_read p k rest reg)
@@ -97,7 +97,7 @@ marked m n p rest size OfWord = (refl, refl, refl)
 marked m n p rest size OfLongword = (refl, refl, refl)
 
 pub place_read : (a : List ℕ) (place : Place) (rest : List ℕ) → IsAddressed a place → PlaceEnds rest → place_at (a ++ rest) ≡ Some (place, rest)
-unfolding place_at deferred_at decremented_at increment_deferred_at absolute_at pointer_at after
+unfolding place_at deferred_at decremented_at increment_deferred_at absolute_at pointer_at behind_byte
 place_read a place rest (Deferred {p} {k} is) ends =
     (opened p k rest is).0 ∙ ap (λ (o : Text ℕ). o >>= λ reg. incremented reg.0 reg.1) (parentheses_read p k rest is) ∙ not_incremented k rest ends
 place_read a place rest (Decremented {p} {k} is) ends = ap (λ (o : Text ℕ). o >>= λ reg. Some (places.AutoDec reg.0, reg.1)) (parentheses_read p k rest is)
@@ -106,7 +106,7 @@ place_read a place rest (Incremented {p} {k} is small) ends =
     ∙ ap (λ (o : Text ℕ). o >>= λ reg. incremented reg.0 reg.1) (parentheses_read p k (43 ∷ rest) is) ∙ rw (not_pc k small) refl
 place_read a place rest (IncrementedDeferred {p} {k} is small) ends =
     ap pointer_at (append_assoc p (codes "+") rest) ∙ (opened p k (43 ∷ rest) is).1
-    ∙ ap (λ (o : Text ℕ). o >>= λ reg. after 43 reg.1 >>= λ rest. if reg.0 == 15 then None else Some (places.AutoIncDef reg.0, rest))
+    ∙ ap (λ (o : Text ℕ). o >>= λ reg. behind_byte 43 reg.1 >>= λ rest. if reg.0 == 15 then None else Some (places.AutoIncDef reg.0, rest))
     (parentheses_read p k (43 ∷ rest) is) ∙ rw (not_pc k small) refl
 place_read a place rest (Absolute {x} {value} is) ends =
     ap (λ (o : Text Value). o >>= λ address. Some (places.Absolute address.0, address.1)) (value_read x value rest is (word_ends rest ends))
@@ -155,17 +155,17 @@ unfolding addressed_at
 addressed_read p place rest is ends = addressed p place rest is ∙ ap (λ (o : Text Place). o >>= λ r. indexed r.0 r.1) (place_read p place rest is ends)
 
 index_read : (i : List ℕ) (k : ℕ) (place : Place) (rest : List ℕ) → IsIndex i k → indexed place (i ++ rest) ≡ Some (writtens.Indexed k place, rest)
-unfolding index_at after
+unfolding index_at behind_byte
 index_read i k place rest (Brackets {r} is) =
     ap (λ (l : List ℕ). index_at place l) (append_assoc r (codes "]") rest)
-    ∙ ap (λ (o : Text ℕ). o >>= λ reg. after 93 reg.1 >>= λ rest. Some (writtens.Indexed reg.0 place, rest)) (register_read r k (93 ∷ rest) is refl)
+    ∙ ap (λ (o : Text ℕ). o >>= λ reg. behind_byte 93 reg.1 >>= λ rest. Some (writtens.Indexed reg.0 place, rest)) (register_read r k (93 ∷ rest) is refl)
 
 misindex_read : (i : List ℕ) (k : ℕ) (immediate : Bool) (written : Written) (rest : List ℕ) → IsIndex i k
     → unaddressed immediate written (i ++ rest) ≡ Some (writtens.Misindexed immediate, rest)
-unfolding misindexed_at after
+unfolding misindexed_at behind_byte
 misindex_read i k immediate written rest (Brackets {r} is) =
     ap (λ (l : List ℕ). misindexed_at immediate l) (append_assoc r (codes "]") rest)
-    ∙ ap (λ (o : Text ℕ). o >>= λ reg. after 93 reg.1 >>= λ rest. Some (writtens.Misindexed immediate, rest)) (register_read r k (93 ∷ rest) is refl)
+    ∙ ap (λ (o : Text ℕ). o >>= λ reg. behind_byte 93 reg.1 >>= λ rest. Some (writtens.Misindexed immediate, rest)) (register_read r k (93 ∷ rest) is refl)
 
 index_ends : (i : List ℕ) (k : ℕ) (rest : List ℕ) → IsIndex i k → PlaceEnds (i ++ rest)
 index_ends i k rest (Brackets {r} is) = (refl, refl)
@@ -177,7 +177,7 @@ register_first r k rest (TwoDigits small) = refl
 
 unaddressed_read : (u : List ℕ) (immediate : Bool) (written : Written) (rest : List ℕ) → IsUnaddressed u immediate written → PlaceEnds rest
     → specifier_at (u ++ rest) ≡ unaddressed immediate written rest
-unfolding specifier_at literal_at immediate_at plain_register_at after
+unfolding specifier_at literal_at immediate_at plain_register_at behind_byte
 unaddressed_read u immediate written rest (Literal {n} {number} is) ends =
     ap (λ (o : Text Number). o >>= λ r. unaddressed false (writtens.Literal r.0) r.1) (number_read n number rest is (word_ends rest ends))
 unaddressed_read u immediate written rest (Immediate {x} {value} is) ends =

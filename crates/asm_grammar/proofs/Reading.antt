@@ -6,7 +6,7 @@ use Rattle.std.specs.Str.Parse.{digits_value}
 use Rattle.std.proofs.lemmas.Bool.Decides.{nat_tests}
 use Rattle.std.proofs.lemmas.Bool.{and_right}
 use Rattle.asm_grammar.specs.Text.{◌>>=◌, Text, behind}
-use Rattle.asm_grammar.specs.Numbers.{is_digit, held, numeral_of, numeral_at, is_hexadecimal, magnitude_at, signed, signed_at, number_at}
+use Rattle.asm_grammar.specs.Numbers.{is_digit, held, numeral_of, numeral_at, is_hexadecimal, magnitude_at, signed, signed_at, spelled_number_at}
 use Rattle.asm_grammar.specs.Values.{is_label_start, is_word_byte, label_of_word, label_at, value_label_at, value_number_at, value_at}
 use Rattle.asm_grammar.specs.declared.syntax.Number.{Number}
 use Rattle.asm_grammar.specs.declared.syntax.Label.{Label}
@@ -59,8 +59,8 @@ magnitude_read m magnitude rest (Hexadecimal {digit} {digits} all) ends = numera
 no_minus : (byte : ℕ) → is_digit 10 byte ≡ true → (byte == 45) ≡ false
 no_minus byte h = grind (arith, nat_tests)
 
-unsigned_read : (m : List ℕ) (magnitude : ℕ) (rest : List ℕ) → IsMagnitude m magnitude → number_at (m ++ rest) ≡ signed_at false (m ++ rest)
-unfolding number_at
+unsigned_read : (m : List ℕ) (magnitude : ℕ) (rest : List ℕ) → IsMagnitude m magnitude → spelled_number_at (m ++ rest) ≡ signed_at false (m ++ rest)
+unfolding spelled_number_at
 unsigned_read m magnitude rest (Decimal {digit} {digits} all) = rw (no_minus digit (both (is_digit 10 digit) (list_all (is_digit 10) digits) all).0) refl
 unsigned_read m magnitude rest (Hexadecimal {digit} {digits} all) = refl
 
@@ -69,8 +69,8 @@ signed_read : (minus : Bool) (m : List ℕ) (magnitude : ℕ) (rest : List ℕ) 
 unfolding signed_at
 signed_read minus m magnitude rest is ends = ap (λ (o : Text ℕ). o >>= λ r. Some (signed minus r.0, r.1)) (magnitude_read m magnitude rest is ends)
 
-pub number_read : (n : List ℕ) (number : Number) (rest : List ℕ) → IsNumber n number → Ends rest → number_at (n ++ rest) ≡ Some (number, rest)
-unfolding number_at
+pub number_read : (n : List ℕ) (number : Number) (rest : List ℕ) → IsNumber n number → Ends rest → spelled_number_at (n ++ rest) ≡ Some (number, rest)
+unfolding spelled_number_at
 number_read n number rest (Unsigned {m} {magnitude} is) ends = unsigned_read m magnitude rest is ∙ signed_read false m magnitude rest is ends
 number_read n number rest (Minus {m} {magnitude} is) ends = signed_read true m magnitude rest is ends
 

@@ -4,7 +4,7 @@ use Rattle.std.specs.Prelude.{◌==◌, ◌&&◌, if◌then◌else◌, codes, na
 use Rattle.std.specs.List.{list_all}
 use Rattle.std.specs.Str.Parse.{digits_value}
 use Rattle.asm_grammar.specs.Text.{front_of, behind}
-use Rattle.asm_grammar.specs.Numbers.{is_digit, held, numeral_of, numeral_at, is_hexadecimal, magnitude_at, signed, signed_at, number_at}
+use Rattle.asm_grammar.specs.Numbers.{is_digit, held, numeral_of, numeral_at, is_hexadecimal, magnitude_at, signed, signed_at, spelled_number_at}
 use Rattle.asm_grammar.specs.Values.{is_label_start, is_word_byte, padded, label_of_word, label_at, value_label_at, value_number_at, value_at}
 use Rattle.asm_grammar.specs.declared.syntax.Number.{Number}
 use Rattle.asm_grammar.specs.declared.syntax.Label.{Label}
@@ -93,8 +93,8 @@ number_by first rest r false sign e =
     let b : Begins IsMagnitude (first ∷ rest) s.0 r.1 = s.1 in
     record { front = b.front; split = b.split; says = subst (λ (n : Number). IsNumber b.front n) (sym s.2) (Unsigned b.says) }
 
-pub number_says : (text : List ℕ) (r : Number × List ℕ) → number_at text ≡ Some r → Begins IsNumber text r.0 r.1
-unfolding number_at
+pub number_says : (text : List ℕ) (r : Number × List ℕ) → spelled_number_at text ≡ Some r → Begins IsNumber text r.0 r.1
+unfolding spelled_number_at
 number_says [] r e = absurd (cc)
 number_says (first ∷ rest) r e = number_by first rest r (first == 45) refl e
 
@@ -132,7 +132,7 @@ value_by first rest r true e =
     subst (λ (q : Value × List ℕ). Begins IsValue (first ∷ rest) q.0 q.1) same
     (retold (first ∷ rest) l.0.0 (values.Label l.0.0) l.0.1 (λ front is. OfLabel is) (label_says (first ∷ rest) l.0 l.1))
 value_by first rest r false e =
-    let n = bind_some (number_at (first ∷ rest)) _ r e in
+    let n = bind_some (spelled_number_at (first ∷ rest)) _ r e in
     let same : (values.Number n.0.0, n.0.1) ≡ r = some_same _ _ n.2 in
     subst (λ (q : Value × List ℕ). Begins IsValue (first ∷ rest) q.0 q.1) same
     (retold (first ∷ rest) n.0.0 (values.Number n.0.0) n.0.1 (λ front is. OfNumber is) (number_says (first ∷ rest) n.0 n.1))

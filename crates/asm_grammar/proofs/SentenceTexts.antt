@@ -6,7 +6,7 @@ use Rattle.std.proofs.lemmas.Bool.Decides.{nat_tests}
 use Rattle.vax_code.specs.declared.table.Row.{Row}
 use Rattle.vax_code.specs.Table.{row_for, slot_in}
 use Rattle.vax_code.specs.Operands.{is_branch}
-use Rattle.asm_grammar.specs.Text.{◌>>=◌, Text, after, front_of, behind}
+use Rattle.asm_grammar.specs.Text.{◌>>=◌, Text, behind_byte, front_of, behind}
 use Rattle.asm_grammar.specs.Values.{is_word_byte}
 use Rattle.asm_grammar.specs.Mnemonics.{mnemonic, row_named}
 use Rattle.asm_grammar.specs.Operands.{operand_at}
@@ -52,10 +52,10 @@ first_ends row i written rest (Present here is) ends = refl
 first_ends row i written rest (Lacking past) ends = operand_ends rest ends
 
 in_place_by : (row : Row) (place : ℕ) (text : List ℕ) (r : Written × List ℕ) (here : Bool) → nat_lt place row.count ≡ here
-    → (if here then (after (separator place) text >>= operand_at (is_branch (slot_in row place).access)) else Some (writtens.Absent, text)) ≡ Some r
+    → (if here then (behind_byte (separator place) text >>= operand_at (is_branch (slot_in row place).access)) else Some (writtens.Absent, text)) ≡ Some r
     → Begins (IsInPlace row place) text r.0 r.1
 in_place_by row place text r true here e =
-    let rest = bind_some (after (separator place) text) (operand_at (is_branch (slot_in row place).access)) r e in
+    let rest = bind_some (behind_byte (separator place) text) (operand_at (is_branch (slot_in row place).access)) r e in
     let o : Begins (IsOperand (is_branch (slot_in row place).access)) rest.0 r.0 r.1 = operand_says (is_branch (slot_in row place).access) rest.0 r rest.2 in
     record {
       front = separator place ∷ o.front;
@@ -99,13 +99,13 @@ pub record Named (text : List ℕ) (sentence : Sentence) : Type 0 where
   pub listed : row_for sentence.row.op ≡ Some sentence.row
   pub ends : Ends rest
   pub operands : operands_at sentence.row rest ≡ Some sentence
-  pub no_colon : after 58 rest ≡ None
+  pub no_colon : behind_byte 58 rest ≡ None
 
-no_colon_by : (row : Row) (i : List ℕ) (written : Written) (rest : List ℕ) → IsInPlace row 0 i written → OperandEnds rest → after 58 (i ++ rest) ≡ None
-unfolding after
+no_colon_by : (row : Row) (i : List ℕ) (written : Written) (rest : List ℕ) → IsInPlace row 0 i written → OperandEnds rest → behind_byte 58 (i ++ rest) ≡ None
+unfolding behind_byte
 no_colon_by row i written rest (Present here is) ends = refl
 no_colon_by row i written [] (Lacking past) ends = refl
-no_colon_by row i written (byte ∷ rest) (Lacking past) ends = subst (λ (b : ℕ). after 58 (b ∷ rest) ≡ None) (sym ends) refl
+no_colon_by row i written (byte ∷ rest) (Lacking past) ends = subst (λ (b : ℕ). behind_byte 58 (b ∷ rest) ≡ None) (sym ends) refl
 
 pub named : (text : List ℕ) (sentence : Sentence) → IsInstructionText text sentence → Named text sentence
 named text sentence (Mnemonic {row} {one} {two} {three} {a} {b} {c} listed first second third) =

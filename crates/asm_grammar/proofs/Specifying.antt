@@ -3,8 +3,8 @@ use Rattle.std.proofs.Common.{◌≡◌, ℕ, ◌+◌, ◌-◌, ◌<◌, ◌≤�
 use Rattle.std.specs.Prelude.{◌==◌, ◌&&◌, if◌then◌else◌, codes}
 use Rattle.std.specs.Int.{is_in_range}
 use Rattle.std.proofs.lemmas.Bool.Decides.{nat_tests}
-use Rattle.asm_grammar.specs.Text.{after}
-use Rattle.asm_grammar.specs.Numbers.{number_at}
+use Rattle.asm_grammar.specs.Text.{behind_byte}
+use Rattle.asm_grammar.specs.Numbers.{spelled_number_at}
 use Rattle.asm_grammar.specs.Values.{value_at}
 use Rattle.asm_grammar.specs.Operands.{second_digit, register_number_at, register_at, in_parentheses_at, incremented, deferred_at, decremented_at, increment_deferred_at, absolute_at, marked_size, displacement_at, displaced_at, pointer_at, place_at, index_at, indexed, addressed_at, misindexed_at, unaddressed, literal_at, immediate_at, plain_register_at, specifier_at, target_at, operand_at}
 use Rattle.asm_grammar.specs.declared.syntax.Number.{Number}
@@ -68,7 +68,7 @@ register_number_says (digit ∷ rest) r e = register_by digit rest r (digit == 4
 register_says : (text : List ℕ) (r : ℕ × List ℕ) → register_at text ≡ Some r → Begins IsRegister text r.0 r.1
 unfolding register_at
 register_says text r e =
-    let digits = bind_some (after 114 text) _ r e in
+    let digits = bind_some (behind_byte 114 text) _ r e in
     subst (λ (l : List ℕ). Begins IsRegister l r.0 r.1) (sym (after_splits 114 text digits.0 digits.1)) (register_number_says digits.0 r digits.2)
 
 register_small : (r : List ℕ) (k : ℕ) → IsRegister r k → k < 16
@@ -81,9 +81,9 @@ parenthesised_small p k (Parentheses {r} is) = register_small r k is
 parentheses_says : (text : List ℕ) (r : ℕ × List ℕ) → in_parentheses_at text ≡ Some r → Begins IsParenthesised text r.0 r.1
 unfolding in_parentheses_at
 parentheses_says text r e =
-    let inner = bind_some (after 40 text) _ r e in
+    let inner = bind_some (behind_byte 40 text) _ r e in
     let reg = bind_some (register_at inner.0) _ r inner.2 in
-    let close = bind_some (after 41 reg.0.1) _ r reg.2 in
+    let close = bind_some (behind_byte 41 reg.0.1) _ r reg.2 in
     let same : (reg.0.0, close.0) ≡ r = some_same _ _ close.2 in
     let b : Begins IsRegister inner.0 reg.0.0 reg.0.1 = register_says inner.0 reg.0 reg.1 in
     subst (λ (q : ℕ × List ℕ). Begins IsParenthesised text q.0 q.1) same (record {
@@ -146,7 +146,7 @@ unfolding increment_deferred_at
 increment_deferred_says text r e =
     let reg = bind_some (in_parentheses_at text) _ r e in
     let b : Begins IsParenthesised text reg.0.0 reg.0.1 = parentheses_says text reg.0 reg.1 in
-    let plus = bind_some (after 43 reg.0.1) _ r reg.2 in
+    let plus = bind_some (behind_byte 43 reg.0.1) _ r reg.2 in
     let found = some_unless (reg.0.0 == 15) (Some (places.AutoIncDef reg.0.0, plus.0)) r plus.2 in
     let same : (places.AutoIncDef reg.0.0, plus.0) ≡ r = some_same _ _ found.1 in
     subst (λ (q : Place × List ℕ). Begins IsAddressed (42 ∷ text) q.0 q.1) same (record {
@@ -203,8 +203,8 @@ displacement_by : (deferred : Bool) (mark : ℕ) (rest : List ℕ) (r : Place ×
     → displacement_at size deferred rest ≡ Some r → Displacement (mark ∷ rest) deferred r
 unfolding displacement_at
 displacement_by deferred mark rest r size is_mark e =
-    let caret = bind_some (after 94 rest) _ r e in
-    let by = bind_some (number_at caret.0) _ r caret.2 in
+    let caret = bind_some (behind_byte 94 rest) _ r e in
+    let by = bind_some (spelled_number_at caret.0) _ r caret.2 in
     let reg = bind_some (in_parentheses_at by.0.1) _ r by.2 in
     let n : Begins IsNumber caret.0 by.0.0 by.0.1 = number_says caret.0 by.0 by.1 in
     let p : Begins IsParenthesised by.0.1 reg.0.0 reg.0.1 = parentheses_says by.0.1 reg.0 reg.1 in
@@ -280,7 +280,7 @@ place_says (first ∷ rest) r e = place_by first rest r (first == 40) (first == 
 -- ---- operands
 
 -- `rK]` after the `[`
-bracket_says : (text : List ℕ) (reg : ℕ × List ℕ) (rest : List ℕ) → register_at text ≡ Some reg → after 93 reg.1 ≡ Some rest
+bracket_says : (text : List ℕ) (reg : ℕ × List ℕ) (rest : List ℕ) → register_at text ≡ Some reg → behind_byte 93 reg.1 ≡ Some rest
     → Begins IsIndex (91 ∷ text) reg.0 rest
 bracket_says text reg rest e close =
     let b : Begins IsRegister text reg.0 reg.1 = register_says text reg e in
@@ -300,7 +300,7 @@ indexed_by : (text : List ℕ) (place : Place) (first : ℕ) (rest : List ℕ) (
 unfolding index_at
 indexed_by text place first rest r true is b e =
     let reg = bind_some (register_at rest) _ r e in
-    let close = bind_some (after 93 reg.0.1) _ r reg.2 in
+    let close = bind_some (behind_byte 93 reg.0.1) _ r reg.2 in
     let i : Begins IsIndex (91 ∷ rest) reg.0.0 close.0 = bracket_says rest reg.0 close.0 reg.1 close.1 in
     let same : (writtens.Indexed reg.0.0 place, close.0) ≡ r = some_same _ _ close.2 in
     subst (λ (q : Written × List ℕ). Begins IsSpecified text q.0 q.1) same (record {
@@ -332,7 +332,7 @@ unaddressed_by : (text : List ℕ) (immediate : Bool) (written : Written) (first
 unfolding misindexed_at
 unaddressed_by text immediate written first rest r true is b e =
     let reg = bind_some (register_at rest) _ r e in
-    let close = bind_some (after 93 reg.0.1) _ r reg.2 in
+    let close = bind_some (behind_byte 93 reg.0.1) _ r reg.2 in
     let i : Begins IsIndex (91 ∷ rest) reg.0.0 close.0 = bracket_says rest reg.0 close.0 reg.1 close.1 in
     let same : (writtens.Misindexed immediate, close.0) ≡ r = some_same _ _ close.2 in
     subst (λ (q : Written × List ℕ). Begins IsSpecified text q.0 q.1) same (record {
@@ -355,7 +355,7 @@ unaddressed_says text immediate written (first ∷ rest) r b e = unaddressed_by 
 literal_says : (text : List ℕ) (r : Written × List ℕ) → literal_at text ≡ Some r → Begins IsSpecified (36 ∷ text) r.0 r.1
 unfolding literal_at
 literal_says text r e =
-    let n = bind_some (number_at text) _ r e in
+    let n = bind_some (spelled_number_at text) _ r e in
     let b : Begins IsNumber text n.0.0 n.0.1 = number_says text n.0 n.1 in
     unaddressed_says (36 ∷ text) false (writtens.Literal n.0.0) n.0.1 r
     (record { front = codes "$" ++ b.front; split = ap (λ (l : List ℕ). 36 ∷ l) b.split; says = Literal b.says }) n.2
@@ -363,8 +363,8 @@ literal_says text r e =
 immediate_says : (text : List ℕ) (r : Written × List ℕ) → immediate_at text ≡ Some r → Begins IsSpecified (105 ∷ text) r.0 r.1
 unfolding immediate_at
 immediate_says text r e =
-    let caret = bind_some (after 94 text) _ r e in
-    let dollar = bind_some (after 36 caret.0) _ r caret.2 in
+    let caret = bind_some (behind_byte 94 text) _ r e in
+    let dollar = bind_some (behind_byte 36 caret.0) _ r caret.2 in
     let x = bind_some (value_at dollar.0) _ r dollar.2 in
     let b : Begins IsValue dollar.0 x.0.0 x.0.1 = value_says dollar.0 x.0 x.1 in
     unaddressed_says (105 ∷ text) true (writtens.Immediate x.0.0) x.0.1 r (record {

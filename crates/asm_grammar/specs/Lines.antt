@@ -1,8 +1,8 @@
 -- Reading a line of a source, as a function: a label, and a directive or an instruction. Grammar tells the same as a relation.
 use Prim.Native.Char.{code}
 use Rattle.std.specs.Prelude.{ℕ, ◌==◌, if◌then◌else◌, List, [], ◌∷◌, codes, map, Option, Some, None}
-use Rattle.asm_grammar.specs.Text.{◌>>=◌, Text, after, front_of, behind}
-use Rattle.asm_grammar.specs.Numbers.{number_at}
+use Rattle.asm_grammar.specs.Text.{◌>>=◌, Text, behind_byte, front_of, behind}
+use Rattle.asm_grammar.specs.Numbers.{spelled_number_at}
 use Rattle.asm_grammar.specs.Values.{is_word_byte, label_at, value_at}
 use Rattle.asm_grammar.specs.Mnemonics.{same_text}
 use Rattle.asm_grammar.specs.Sentences.{sentence_of, ended, is_short}
@@ -19,7 +19,7 @@ whole_value text = value_at text >>= λ value. ended value.0 value.1
 
 -- the number that the whole text is
 unfoldable pub whole_number : List ℕ → Option Number
-whole_number text = number_at text >>= λ number. ended number.0 number.1
+whole_number text = spelled_number_at text >>= λ number. ended number.0 number.1
 
 -- what follows the `.`: a word, a space, and a value or a number
 unfoldable pub directive_by : List ℕ → List ℕ → Option Statement
@@ -33,7 +33,7 @@ directive_by word text =
 
 -- the directive after the `.`: one of the five words, a space, and its value or number
 unfoldable pub directive_of : List ℕ → Option Statement
-directive_of text = after (code " ") (behind is_word_byte text) >>= λ rest. directive_by (front_of is_word_byte text) rest
+directive_of text = behind_byte (code " ") (behind is_word_byte text) >>= λ rest. directive_by (front_of is_word_byte text) rest
 
 -- the instruction that the whole text is, as a statement
 unfoldable pub instruction_of : List ℕ → Option Statement
@@ -48,7 +48,7 @@ statement_of (first ∷ rest) = if first == code "." then directive_of rest else
 unfoldable pub label_before : List ℕ → Text Label
 label_before text = do
   label ← label_at text
-  rest ← after (code ":") label.1
+  rest ← behind_byte (code ":") label.1
   Some (label.0, rest)
 
 -- a line of a statement without a label

@@ -48,6 +48,6 @@ signed_at minus text = do
   Some (signed minus magnitude.0, magnitude.1)
 
 -- a number: a magnitude, with a `-` before it or without
-unfoldable pub number_at : List ℕ → Text Number
-number_at [] = None
-number_at (first ∷ rest) = if first == code "-" then signed_at true rest else signed_at false (first ∷ rest)
+unfoldable pub spelled_number_at : List ℕ → Text Number
+spelled_number_at [] = None
+spelled_number_at (first ∷ rest) = if first == code "-" then signed_at true rest else signed_at false (first ∷ rest)

@@ -2,8 +2,8 @@
 use Prim.Native.Char.{code}
 use Rattle.std.specs.Prelude.{ℕ, ◌+◌, ◌-◌, ◌==◌, ◌&&◌, Bool, true, false, not, if◌then◌else◌, List, [], ◌∷◌, Option, Some, None}
 use Rattle.std.specs.Int.{is_in_range}
-use Rattle.asm_grammar.specs.Text.{◌>>=◌, Text, after}
-use Rattle.asm_grammar.specs.Numbers.{number_at}
+use Rattle.asm_grammar.specs.Text.{◌>>=◌, Text, behind_byte}
+use Rattle.asm_grammar.specs.Numbers.{spelled_number_at}
 use Rattle.asm_grammar.specs.Values.{value_at}
 use Rattle.asm_grammar.specs.declared.syntax.Place.{Place}
 use Rattle.asm_grammar.specs.declared.syntax.Place.TheVariants as places
@@ -24,14 +24,14 @@ register_number_at (digit ∷ rest) =
 
 -- `rK`
 unfoldable pub register_at : List ℕ → Text ℕ
-register_at text = after (code "r") text >>= register_number_at
+register_at text = behind_byte (code "r") text >>= register_number_at
 
 -- `(rK)`
 unfoldable pub in_parentheses_at : List ℕ → Text ℕ
 in_parentheses_at text = do
-  inner ← after (code "(") text
+  inner ← behind_byte (code "(") text
   reg ← register_at inner
-  rest ← after (code ")") reg.1
+  rest ← behind_byte (code ")") reg.1
   Some (reg.0, rest)
 
 -- `(rK)` or `(rK)+`
@@ -52,7 +52,7 @@ decremented_at text = in_parentheses_at text >>= λ reg. Some (places.AutoDec re
 unfoldable pub increment_deferred_at : List ℕ → Text Place
 increment_deferred_at text = do
   reg ← in_parentheses_at text
-  rest ← after (code "+") reg.1
+  rest ← behind_byte (code "+") reg.1
   if reg.0 == 15 then None else Some (places.AutoIncDef reg.0, rest)
 
 -- `*$X`, after the `$`
@@ -66,8 +66,8 @@ marked_size mark = if mark == code "b" then Some 1 else (if mark == code "w" the
 -- `^N(rK)`, after the mark
 unfoldable pub displacement_at : ℕ → Bool → List ℕ → Text Place
 displacement_at size deferred text = do
-  number ← after (code "^") text
-  by ← number_at number
+  number ← behind_byte (code "^") text
+  by ← spelled_number_at number
   reg ← in_parentheses_at by.1
   Some (places.Disp size reg.0 by.0 deferred, reg.1)
 
@@ -97,7 +97,7 @@ place_at (first ∷ rest) =
 unfoldable pub index_at : Place → List ℕ → Text Written
 index_at base text = do
   reg ← register_at text
-  rest ← after (code "]") reg.1
+  rest ← behind_byte (code "]") reg.1
   Some (writtens.Indexed reg.0 base, rest)
 
 -- a place, with the index `[rK]` where the text after it begins with one
@@ -113,7 +113,7 @@ addressed_at text = place_at text >>= λ place. indexed place.0 place.1
 unfoldable pub misindexed_at : Bool → List ℕ → Text Written
 misindexed_at immediate text = do
   reg ← register_at text
-  rest ← after (code "]") reg.1
+  rest ← behind_byte (code "]") reg.1
   Some (writtens.Misindexed immediate, rest)
 
 -- an operand without an address: with an index after it, it is still one of the grammar, but refused
@@ -123,13 +123,13 @@ unaddressed immediate written (first ∷ rest) = if first == code "[" then misin
 
 -- `$N`, after the `$`
 unfoldable pub literal_at : List ℕ → Text Written
-literal_at text = number_at text >>= λ number. unaddressed false (writtens.Literal number.0) number.1
+literal_at text = spelled_number_at text >>= λ number. unaddressed false (writtens.Literal number.0) number.1
 
 -- `i^$X`, after the `i`
 unfoldable pub immediate_at : List ℕ → Text Written
 immediate_at text = do
-  dollar ← after (code "^") text
-  number ← after (code "$") dollar
+  dollar ← behind_byte (code "^") text
+  number ← behind_byte (code "$") dollar
   value ← value_at number
   unaddressed true (writtens.Immediate value.0) value.1
 

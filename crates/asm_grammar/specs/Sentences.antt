@@ -4,7 +4,7 @@ use Rattle.std.specs.Prelude.{ℕ, ◌==◌, Bool, if◌then◌else◌, nat_lt, 
 use Rattle.vax_code.specs.declared.table.Row.{Row}
 use Rattle.vax_code.specs.Table.{slot_in}
 use Rattle.vax_code.specs.Operands.{is_branch}
-use Rattle.asm_grammar.specs.Text.{◌>>=◌, Text, after, front_of, behind}
+use Rattle.asm_grammar.specs.Text.{◌>>=◌, Text, behind_byte, front_of, behind}
 use Rattle.asm_grammar.specs.Values.{is_word_byte}
 use Rattle.asm_grammar.specs.Operands.{operand_at}
 use Rattle.asm_grammar.specs.Mnemonics.{row_named}
@@ -19,7 +19,7 @@ separator place = if place == 0 then code " " else code ","
 -- the operand in one of the places 0, 1 and 2 of the row, or nothing where the instruction has none there
 unfoldable pub place_of_row_at : Row → ℕ → List ℕ → Text Written
 place_of_row_at row place text =
-    if nat_lt place row.count then (after (separator place) text >>= λ operand. operand_at (is_branch (slot_in row place).access) operand)
+    if nat_lt place row.count then (behind_byte (separator place) text >>= λ operand. operand_at (is_branch (slot_in row place).access) operand)
     else Some (writtens.Absent, text)
 
 -- what was read, where no text is left after it

@@ -17,9 +17,9 @@ Gives view (Some x) read = read ≡ Some (view x)
 Gives view None read = read ≡ None
 
 -- the text after this byte
-unfoldable pub after : ℕ → List ℕ → Option (List ℕ)
-after byte [] = None
-after byte (first ∷ rest) = if first == byte then Some rest else None
+unfoldable pub behind_byte : ℕ → List ℕ → Option (List ℕ)
+behind_byte byte [] = None
+behind_byte byte (first ∷ rest) = if first == byte then Some rest else None
 
 -- the bytes of a kind at the front, and the text after them
 abbrev pub front_of : (ℕ → Bool) → List ℕ → List ℕ

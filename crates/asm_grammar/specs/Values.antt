@@ -3,7 +3,7 @@ use Prim.Native.Char.{code}
 use Rattle.std.specs.Prelude.{ℕ, ◌==◌, ◌&&◌, ◌||◌, Bool, if◌then◌else◌, nat_le, List, [], ◌∷◌, ◌++◌, length, drop, replicate, Some, None}
 use Rattle.std.specs.Int.{is_in_range}
 use Rattle.asm_grammar.specs.Text.{◌>>=◌, Text, front_of, behind}
-use Rattle.asm_grammar.specs.Numbers.{number_at}
+use Rattle.asm_grammar.specs.Numbers.{spelled_number_at}
 use Rattle.asm_grammar.specs.declared.syntax.Label.{Label}
 use Rattle.asm_grammar.specs.declared.syntax.Value.{Value}
 use Rattle.asm_grammar.specs.declared.syntax.Value.TheVariants as values
@@ -41,7 +41,7 @@ value_label_at text = label_at text >>= λ label. Some (values.Label label.0, la
 
 -- a value that is a number
 unfoldable pub value_number_at : List ℕ → Text Value
-value_number_at text = number_at text >>= λ number. Some (values.Number number.0, number.1)
+value_number_at text = spelled_number_at text >>= λ number. Some (values.Number number.0, number.1)
 
 -- a value: a label where the text begins with the first byte of one, or else a number
 unfoldable pub value_at : List ℕ → Text Value

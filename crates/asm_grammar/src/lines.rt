@@ -1,5 +1,5 @@
 //! Reads one line of a source: its label, and its directive or instruction. A line outside the grammar reads as
-//! nothing; `asm_reasons` tells why.
+//! nothing; `source_commands` tells why.
 ghost use Rattle.std.specs.Prelude.{◌≡◌, ◌<◌, ◌≤◌, ◌∷◌, length, not, ◌==◌};
 ghost use Rattle.std.specs.Option.{option_copied};
 ghost use Rattle.asm_grammar.specs.Text.{Gives, front_of};

@@ -3,7 +3,7 @@
 ghost use Rattle.std.specs.Prelude.{◌≡◌, ◌⊎◌, ◌≤◌, ◌^◌, ◌<◌, length};
 ghost use Rattle.std.specs.Str.Parse.{digits_value};
 ghost use Rattle.asm_grammar.specs.Text.{Gives, front_of, behind};
-ghost use Rattle.asm_grammar.specs.Numbers.{is_digit, AreDigits, held, numeral_at, magnitude_at, signed, signed_at, number_at};
+ghost use Rattle.asm_grammar.specs.Numbers.{is_digit, AreDigits, held, numeral_at, magnitude_at, signed, signed_at, spelled_number_at};
 
 use crate::syntax::Number;
 use std::str;
@@ -91,9 +91,9 @@ fn signed_of(minus: bool, text: &[u8]) -> Option<(Number, &[u8])>
 }
 
 // A number, and the text after it.
-#[tactic(auto, unfolding(crate::specs::Numbers::number_at))]
+#[tactic(auto, unfolding(crate::specs::Numbers::spelled_number_at))]
 pub fn number_of(text: &[u8]) -> Option<(Number, &[u8])>
-    ensures { Gives (λ x. (x.0, x.1.now)) result (number_at text.now) }
+    ensures { Gives (λ x. (x.0, x.1.now)) result (spelled_number_at text.now) }
 {
     match text {
         [] => None,

@@ -1,5 +1,5 @@
 //! Reads what a call asks of its process's memory, up to the first refused byte. It may change nothing, since
-//! `touched_pages` asks it of calls that aren't made yet.
+//! `proc_run` asks it of calls that aren't made yet.
 ghost use Rattle.std.specs.Prelude.{◌≡◌, ◌+◌, ◌^◌, ◌<◌, ◌≤◌, List, length, Some, IfSome, IfOk, string_bytes, bytes_eq};
 ghost use Rattle.user_vax.specs.Program.{run};
 ghost use Rattle.flat_state.specs.Flat.{NamedImage, FlatState, Process};

@@ -1,8 +1,8 @@
 //! The files that the words name: that they are read where memory is found, and by which calls; and a run that is
 //! opened.
 use crate::fixtures::mem_files;
+use command_edge::{Unread, load_image, read_file};
 use io_edge::MemFiles;
-use run_files::{Unread, load_image, read_file};
 use run_opening::{Opening, open_run};
 use std::alloc::Global;
 use std::process::Abort;

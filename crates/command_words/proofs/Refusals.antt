@@ -4,7 +4,7 @@ use Rattle.std.specs.List.{list_all, list_any}
 use Rattle.std.specs.Option.{option_map, option_and_then}
 use Rattle.std.specs.Prelude.{unwrap_or}
 use Rattle.io_edge.specs.Striping.{most_blocks}
-use Rattle.run_files.specs.ImageWords.{starts}
+use Rattle.command_edge.specs.ImageWords.{starts}
 use Rattle.command_words.specs.declared.command.Numbers.{Numbers}
 use Rattle.command_words.specs.declared.command.FilmSteps.{FilmSteps}
 use Rattle.command_words.specs.declared.command.Comparison.{Comparison}

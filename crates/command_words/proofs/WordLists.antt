@@ -8,7 +8,7 @@ use Rattle.std.proofs.lemmas.Bool.Decides.{leb_tells, nat_tests}
 use Rattle.std.proofs.lemmas.List.{append-nil, drop-append-le, drop-map, drop_all, map-append, take-map, take_all}
 use Rattle.std.proofs.lemmas.List.Elements.{All-nil, All-cons}
 use Rattle.std.proofs.lemmas.List.Folds.{list_all-append, list_all-map, list_any-append}
-use Rattle.run_files.specs.ImageWords.{IsShortName, starts, name_in}
+use Rattle.command_edge.specs.ImageWords.{IsShortName, starts, name_in}
 use Rattle.command_words.specs.Command.{AreImageWords}
 use Rattle.command_words.specs.Words.{has_up_to, is_name, is_image_word, is_trace, without_trace}
 

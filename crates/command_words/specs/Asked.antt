@@ -3,7 +3,7 @@ use Rattle.std.specs.Prelude.{ℕ, ◌-◌, ◌/◌, Bool, false, ◌&&◌, not,
 use Rattle.std.specs.List.{list_all, list_any}
 use Rattle.std.specs.Option.{option_map}
 use Rattle.io_edge.specs.Striping.{most_blocks}
-use Rattle.run_files.specs.ImageWords.{starts}
+use Rattle.command_edge.specs.ImageWords.{starts}
 use Rattle.command_words.specs.declared.command.Numbers.{Numbers}
 use Rattle.command_words.specs.declared.command.FilmSteps.{FilmSteps}
 use Rattle.command_words.specs.declared.command.Comparison.{Comparison}

@@ -2,7 +2,7 @@
 use Rattle.std.specs.Prelude.{◌≡◌, ◌≤◌, ◌<◌, ℕ, IsTrue, List, ◌++◌, length, map, All}
 use Rattle.std.specs.List.{list_any}
 use Rattle.io_edge.specs.Striping.{most_blocks}
-use Rattle.run_files.specs.ImageWords.{IsShortName, starts, name_in}
+use Rattle.command_edge.specs.ImageWords.{IsShortName, starts, name_in}
 use Rattle.command_words.specs.declared.limits.TheConstants.{LEAST_FRAMES, MOST_FRAMES, MOST_COMPARED, LEAST_SWAP, MOST_LIMIT, MOST_SHORT_LIMIT, LAST_LOAD, JOURNAL_ENTRIES}
 use Rattle.command_words.specs.declared.command.Numbers.{Numbers}
 use Rattle.command_words.specs.declared.command.FilmSteps.{FilmSteps}

@@ -3,7 +3,7 @@ use Rattle.std.specs.Prelude.{ℕ, Bool, ◌&&◌, not, ◌==◌, nat_le, List, 
 use Rattle.std.specs.List.{list_all, list_any, before_first, after_first}
 use Rattle.std.specs.Char.{is_ascii_digit}
 use Rattle.std.specs.Str.Parse.{digits_value}
-use Rattle.run_files.specs.ImageWords.{starts, name_in}
+use Rattle.command_edge.specs.ImageWords.{starts, name_in}
 
 -- a word has at least one byte, and so many at most
 unfoldable pub has_up_to : ℕ → List ℕ → Bool

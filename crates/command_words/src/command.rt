@@ -2,7 +2,7 @@
 //! of in reasons.rt.
 ghost use Rattle.std.specs.Prelude.{◌≡◌, ◌≤◌, ℕ, List, drop, map, IsSome, IfSome};
 ghost use Rattle.std.specs.Option.{option_map};
-ghost use Rattle.run_files.specs.ImageWords.{IsShortName};
+ghost use Rattle.command_edge.specs.ImageWords.{IsShortName};
 ghost use Rattle.command_words.specs.Asked.{Asked, request_of, request_in, asked_of, asked_run, asked_other, asked_load, asked_replay, asked_assemble, asked_show, asked_optimum, asked_owners, asked_film, asked_grade, machine_numbers, asked_with_trace, asked_trace_owners, asked_repage, owners_first, where_plain, Repage, film_steps, quarter_ahead, so_far_ahead, each_of_several, compared_on, asked_policies, asked_with_run, run_numbers, Curve, Stats, References};
 ghost use Rattle.command_words.specs.Command.{word_list, asked_by, AreAllowed, AreImageWords, AreSteps, IsFittingComparison, IsFittingRun, IsFitting};
 ghost use Rattle.command_words.specs.declared.limits.TheConstants.{MOST_LIMIT, MOST_SHORT_LIMIT};

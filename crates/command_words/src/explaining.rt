@@ -4,7 +4,7 @@ ghost use Rattle.command_words.specs.Reasons.{why_of, NoCommand, Unknown, NotPla
 ghost use Rattle.command_words.specs.Explaining.{argument_name, range_text, kind_text, why_text, why_line, words_explained};
 
 use crate::reasons::{Argument, BadWord, bad_word};
-use command_ending::put_number;
+use command_edge::put_number;
 use std::alloc::{AllocError, Global};
 
 /// The commands that there are.

@@ -1,7 +1,7 @@
 //! The words that name images, with `--trace` among them or not. No list is made of them: they stay where they stand.
 ghost use Rattle.std.specs.Prelude.{◌≡◌, ◌<◌, ◌≤◌, ◌++◌, length, map, take, drop, position, IsTrue, IfSome, IfOk};
 ghost use Rattle.std.specs.List.{list_all, list_any};
-ghost use Rattle.run_files.specs.ImageWords.{starts};
+ghost use Rattle.command_edge.specs.ImageWords.{starts};
 ghost use Rattle.command_words.specs.Command.{word_list, AreImageWords};
 ghost use Rattle.command_words.specs.Words.{is_plain, is_image_word, are_image_words, is_trace, without_trace, word_at};
 

@@ -2,7 +2,7 @@
 //! refuse the same words; a law says so.
 ghost use Rattle.std.specs.Prelude.{◌≡◌, map, option_map, find, not, IfOk, [], ◌∷◌, true, Some, None, if◌then◌else◌};
 ghost use Rattle.std.specs.List.{list_any};
-ghost use Rattle.run_files.specs.ImageWords.{starts};
+ghost use Rattle.command_edge.specs.ImageWords.{starts};
 ghost use Rattle.command_words.specs.Words.{is_image_word, is_plain, without_trace};
 ghost use Rattle.command_words.specs.declared.reasons.Argument.TheVariants.{Frames, Swap, Limit, Schedule};
 ghost use Rattle.command_words.specs.Reasons.{why_of, least_of, most_of, takes, bad_image, bad_plain, none_starts, why_images, why_rest, why_words, why_form, frames_or_one, why_spread, why_sweep, why_policies, why_other, why_repage, why_command, why_bad, RefusedHaveReasons};

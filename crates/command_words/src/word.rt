@@ -2,7 +2,7 @@
 ghost use Rattle.std.specs.Prelude.{◌≡◌, ◌≤◌, IsTrue, IfSome};
 ghost use Rattle.std.specs.Char.{is_ascii_digit};
 ghost use Rattle.std.specs.List.{list_all};
-ghost use Rattle.run_files.specs.ImageWords.{IsShortName, starts};
+ghost use Rattle.command_edge.specs.ImageWords.{IsShortName, starts};
 ghost use Rattle.command_words.specs.Words.{is_plain, decimal_of, number_in, is_name, is_image_word, is_trace};
 
 // Whether a word has a byte and doesn't begin with a hyphen.

@@ -9,9 +9,9 @@ use crate::outcome::outcome_line;
 use crate::running::{Ran, Setup, Unfit, run_over};
 use crate::setup::{read_setup, words_of};
 use crate::sums::put_pages;
+use command_edge::image_names;
 use io_edge::{Files, MemFiles, MemSwap, SwapPair};
 use machine_state::Named;
-use run_files::image_names;
 use std::alloc::{AllocError, Global};
 
 /// A run of up to this many blocks has one device.

@@ -4,9 +4,9 @@ ghost use Rattle.core_vectors.specs.Ready.{AreFit};
 
 use crate::cases::ImageFile;
 use crate::running::Unfit;
+use command_edge::open_image;
 use io_edge::Files;
 use machine_state::Named;
-use run_files::open_image;
 use std::alloc::{AllocError, Global};
 
 // The bytes of the last image of this name.

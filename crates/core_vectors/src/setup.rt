@@ -2,7 +2,7 @@
 ghost use Rattle.std.specs.Prelude.{◌≤◌, length};
 
 use crate::running::{Setup, Unfit};
-use run_files::first_images;
+use command_edge::first_images;
 use run_text::{Schedule, read_schedule};
 use std::alloc::{AllocError, Global};
 use vm_facts::{Event, Params};

@@ -18,7 +18,7 @@ use Rattle.flat_model.specs.Run.{process_of_entry}
 use Rattle.run_model.specs.State.{State}
 use Rattle.run_model.specs.Wanted.{locked}
 use Rattle.run_model.specs.Next.{fill_by, fill_unit, begins_write, move_by, move_unit, next_unit}
-use Rattle.run_model.specs.Kinds.{Kind, Fills, Brings, Copies, ServesWanted, Acts, ProcessComes, Interrupts, Moves, PutsOut, Notes, Begins}
+use Rattle.run_model.specs.Kinds.{Kind, Fills, Brings, Copies, ServesWanted, Acts, ProcessComes, Interrupts, HandsMove, ProcessGoes, Notes, Begins}
 use Rattle.run_model.proofs.NextUnits.{kind_of}
 use Rattle.run_laws.specs.Running.{IsRun}
 use Rattle.run_laws.specs.Standing.{Placed}
@@ -120,8 +120,8 @@ kind_names A s u (Acts pid now r w a) = by (acted A s pid u a)
     by (Steps f g i) = flat_names A s u pid (steps_own A s.point pid u i)
 kind_names A s u (ProcessComes pid e c i) = subst (Names A s) (sym i) tt
 kind_names A s u (Interrupts e j i) = subst (Names A s) (sym i) tt
-kind_names A s u (Moves count e j l w i) = subst (Names A s) (sym i) (move_names A s (locked A s))
-kind_names A s u (PutsOut pid e j i) = subst (Names A s) (sym i)
+kind_names A s u (HandsMove count e j l w i) = subst (Names A s) (sym i) (move_names A s (locked A s))
+kind_names A s u (ProcessGoes pid e j i) = subst (Names A s) (sym i)
     (unit_case (Names A s) s.place pid (space_of_process (process_of s.point.flat pid)) (λ t ts h. tt) (λ v a h k. tt) (λ a h. tt))
 kind_names A s u (Notes e j i) = subst (Names A s) (sym i) tt
 kind_names A s u (Begins e j i) = begins_is (Names A s) A s u i (λ x k. mark_names A s x k)

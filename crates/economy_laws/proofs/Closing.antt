@@ -19,7 +19,7 @@ use Rattle.page_laws.proofs.Moves.Units.{unit_is}
 use Rattle.run_laws.proofs.Flows.{Acted, Settles, Refuses, Steps, acted, steps_own}
 use Rattle.run_laws.proofs.Plain.{IsPaging, serve_paging, zero_paging, copy_paging}
 use Rattle.run_model.specs.Next.{fill_unit, when, turn_of, next_turned, last_turned, line_or_turn, next_mark, next_unit, goes_on, turn_instructions}
-use Rattle.run_model.specs.Kinds.{GoesOn, ProcessRuns, Comes, Kind, Fills, Brings, Copies, ServesWanted, Acts, ProcessComes, Interrupts, Moves, PutsOut, Notes, Begins}
+use Rattle.run_model.specs.Kinds.{GoesOn, ProcessRuns, Comes, Kind, Fills, Brings, Copies, ServesWanted, Acts, ProcessComes, Interrupts, HandsMove, ProcessGoes, Notes, Begins}
 use Rattle.run_model.proofs.NextUnits.{kind_of}
 use Rattle.economy_laws.specs.Stretch.{begins_stretch, IsClosing}
 
@@ -77,8 +77,8 @@ closes A s u pid c h n = go (kind_of A s u h)
         let z : (pid ≡ p) × (goes_on A s p (c.since + turn_instructions) ≡ true) × (is_out s.place p ≡ true) = subst (λ (m : Mark). Comes A s m p) c.mark k in
         In e (subst (λ (x : ℕ). is_out s.place x ≡ true) (sym z.0) z.2) (i ∙ ap (λ (x : ℕ). entries.SwapIn x) (sym z.0))
     go (Interrupts e k i) = absurd (let z : marks.Turn pid c.since ≡ marks.Interrupt = sym c.mark ∙ k in cc)
-    go (Moves count e k l w i) = absurd (let z : marks.Turn pid c.since ≡ marks.Hands count = sym c.mark ∙ k in cc)
-    go (PutsOut p e k i) = absurd (let z : marks.Turn pid c.since ≡ marks.PutOut p = sym c.mark ∙ k in cc)
+    go (HandsMove count e k l w i) = absurd (let z : marks.Turn pid c.since ≡ marks.Hands count = sym c.mark ∙ k in cc)
+    go (ProcessGoes p e k i) = absurd (let z : marks.Turn pid c.since ≡ marks.PutOut p = sym c.mark ∙ k in cc)
     go (Notes e k i) = absurd (let z : marks.Turn pid c.since ≡ marks.Audit = sym c.mark ∙ k in cc)
     go (Begins e k i) = absurd (let z : true ≡ false = sym (mark_begins A s u c.lines i) ∙ n in cc)
 

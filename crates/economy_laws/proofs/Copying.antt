@@ -35,7 +35,7 @@ use Rattle.run_model.specs.Wanted.{locked_by, locked}
 use Rattle.run_model.specs.After.{moved_on, place_at, after}
 use Rattle.run_model.specs.Snapshot.{pages_written}
 use Rattle.run_model.specs.Next.{fill_by, begins_write, move_by, owners_entry, next_unit}
-use Rattle.run_model.specs.Kinds.{Kind, Fills, Brings, Copies, ServesWanted, Acts, ProcessComes, Interrupts, Moves, PutsOut, Notes, Begins}
+use Rattle.run_model.specs.Kinds.{Kind, Fills, Brings, Copies, ServesWanted, Acts, ProcessComes, Interrupts, HandsMove, ProcessGoes, Notes, Begins}
 use Rattle.run_model.proofs.NextUnits.{kind_of}
 use Rattle.flat_laws.proofs.Runs.{made}
 use Rattle.run_laws.specs.Sized.{PlaceSized}
@@ -239,8 +239,8 @@ unit_copies A s u images r z h = go (kind_of A s u h)
     go (Acts pid now run w a) = acts pid run.clear (acted A s pid u a)
     go (ProcessComes pid d c i) = kept_as A s u (entries.SwapIn pid) (sym i) refl (ap (λ (p : Placement). p.due) (plain_place A s (entries.SwapIn pid) refl))
     go (Interrupts d k i) = kept_as A s u entries.Done (sym i) refl (done_due A s r)
-    go (Moves count d k l w i) = hands count (begins_write s.place (locked A s) && is_full s.place) k (sym i)
-    go (PutsOut pid d k i) = puts pid d k u i refl
+    go (HandsMove count d k l w i) = hands count (begins_write s.place (locked A s) && is_full s.place) k (sym i)
+    go (ProcessGoes pid d k i) = puts pid d k u i refl
     go (Notes d k i) = kept_as A s u (owners_entry s) (sym i) refl (due_same A s (owners_entry s) (notes_place A s))
     go (Begins d k i) = begins_is (FewCopies A s) A s u i (λ x m. kept A s x (marked_copies x m) (due_same A s x (marked_place A s x m)))
 

@@ -30,7 +30,7 @@ use Rattle.run_model.specs.After.{after}
 use Rattle.run_model.proofs.After.{after_count}
 use Rattle.run_model.proofs.Wanting.{wanted_splits}
 use Rattle.run_model.specs.Next.{when, work_by, turn_by, turn_unit, goes_on, turn_instructions, under, pid_if, next_ready, or_else, next_turned, last_turned, turn_of, line_or_turn, next_mark, next_unit}
-use Rattle.run_model.specs.Kinds.{GoesOn, ProcessRuns, Kind, Fills, Brings, Copies, ServesWanted, Acts, ProcessComes, Interrupts, Moves, PutsOut, Notes, Begins}
+use Rattle.run_model.specs.Kinds.{GoesOn, ProcessRuns, Kind, Fills, Brings, Copies, ServesWanted, Acts, ProcessComes, Interrupts, HandsMove, ProcessGoes, Notes, Begins}
 use Rattle.run_model.specs.Lawful.{Follows}
 use Rattle.run_model.proofs.NextUnits.{kind_of}
 use Rattle.std.proofs.lemmas.Bool.{and_parts}
@@ -253,8 +253,8 @@ turn_begins A s p (Acts pid now r w a) = by (acted A s pid (entries.Turn p) a)
     by (Steps f g i) = absurd (let z : None ≡ Some pid = steps_own A s.point pid (entries.Turn p) i in cc)
 turn_begins A s p (ProcessComes pid e c i) = absurd cc
 turn_begins A s p (Interrupts e k i) = absurd cc
-turn_begins A s p (Moves count e k l w i) = absurd (subst IsPaging (sym i) (move_paging s.place (locked A s)))
-turn_begins A s p (PutsOut pid e k i) =
+turn_begins A s p (HandsMove count e k l w i) = absurd (subst IsPaging (sym i) (move_paging s.place (locked A s)))
+turn_begins A s p (ProcessGoes pid e k i) =
     absurd (unit_case (λ (x : Entry). entries.Turn p ≡ x → ⊥) s.place pid (space_of_process (process_of s.point.flat pid)) (λ t ts h z. absurd cc) (λ v a h k z. absurd cc) (λ a h z. absurd cc) i)
 turn_begins A s p (Notes e k i) = absurd cc
 turn_begins A s p (Begins e k i) = record { clear = e; over = k; next = i }

@@ -26,7 +26,7 @@ use Rattle.run_model.specs.State.{State}
 use Rattle.run_model.specs.After.{place_at, after}
 use Rattle.run_model.specs.Snapshot.{pages_written}
 use Rattle.run_model.specs.Next.{next_unit}
-use Rattle.run_model.specs.Kinds.{Kind, Fills, Brings, Copies, ServesWanted, Acts, ProcessComes, Interrupts, Moves, PutsOut, Notes, Begins}
+use Rattle.run_model.specs.Kinds.{Kind, Fills, Brings, Copies, ServesWanted, Acts, ProcessComes, Interrupts, HandsMove, ProcessGoes, Notes, Begins}
 use Rattle.run_model.specs.Lawful.{Follows}
 use Rattle.run_model.proofs.NextUnits.{kind_of}
 use Rattle.run_laws.specs.Running.{IsRun, ReadyToStep}
@@ -91,8 +91,8 @@ turn_clear A s p (ServesWanted pid now q r w i) = r.clear
 turn_clear A s p (Acts pid now r w a) = r.clear
 turn_clear A s p (ProcessComes pid e c i) = e
 turn_clear A s p (Interrupts e k i) = e
-turn_clear A s p (Moves count e k l w i) = e
-turn_clear A s p (PutsOut pid e k i) = e
+turn_clear A s p (HandsMove count e k l w i) = e
+turn_clear A s p (ProcessGoes pid e k i) = e
 turn_clear A s p (Notes e k i) = e
 turn_clear A s p (Begins e k i) = e
 

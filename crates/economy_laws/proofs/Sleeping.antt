@@ -20,7 +20,7 @@ use Rattle.run_model.specs.After.{place_at, after}
 use Rattle.run_model.specs.Snapshot.{pages_written}
 use Rattle.run_model.specs.Act.{act}
 use Rattle.run_model.specs.Next.{next_unit}
-use Rattle.run_model.specs.Kinds.{ProcessRuns, Kind, Fills, Brings, Copies, ServesWanted, Acts, ProcessComes, Interrupts, Moves, PutsOut, Notes, Begins}
+use Rattle.run_model.specs.Kinds.{ProcessRuns, Kind, Fills, Brings, Copies, ServesWanted, Acts, ProcessComes, Interrupts, HandsMove, ProcessGoes, Notes, Begins}
 use Rattle.run_model.proofs.NextUnits.{kind_of}
 use Rattle.run_laws.proofs.Acts.{Stepper, stepper, Stepped, stepped_flat, stepped_form, Completes, completes}
 use Rattle.run_laws.proofs.Flows.{Acted, Settles, Refuses, Steps, acted, steps_own, on_steps}
@@ -82,8 +82,8 @@ does A s u pid h e = go (kind_of A s u h)
     go (ServesWanted p now q x w i) = none (ap process_of_entry (unit_is s.place q now u i).1 ∙ serve_flat s.place q)
     go (ProcessComes p e c i) = none (ap process_of_entry i)
     go (Interrupts e j i) = none (ap process_of_entry i)
-    go (Moves count e j l w i) = none (ap process_of_entry i ∙ move_flat s.place (locked A s))
-    go (PutsOut p e j i) = none (ap process_of_entry i ∙ put_flat s.place p (space_of_process (process_of s.point.flat p)))
+    go (HandsMove count e j l w i) = none (ap process_of_entry i ∙ move_flat s.place (locked A s))
+    go (ProcessGoes p e j i) = none (ap process_of_entry i ∙ put_flat s.place p (space_of_process (process_of s.point.flat p)))
     go (Notes e j i) = none (ap process_of_entry i)
     go (Begins e j i) = none (mark_flat A s u i)
 

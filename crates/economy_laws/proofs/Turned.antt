@@ -19,7 +19,7 @@ use Rattle.run_model.specs.Snapshot.{touched_of, before_absent}
 use Rattle.run_model.specs.After.{place_at, after}
 use Rattle.run_model.specs.Act.{must_refuse, must_settle, act_by, act_if, act}
 use Rattle.run_model.specs.Next.{when, or_else, fill_unit, copy_unit_by, due_unit, goes_on, work_by, work, turn_by, turn_instructions, under, next_mark, next_unit}
-use Rattle.run_model.specs.Kinds.{GoesOn, ProcessRuns, Comes, Kind, Fills, Brings, Copies, ServesWanted, Acts, ProcessComes, Interrupts, Moves, PutsOut, Notes, Begins}
+use Rattle.run_model.specs.Kinds.{GoesOn, ProcessRuns, Comes, Kind, Fills, Brings, Copies, ServesWanted, Acts, ProcessComes, Interrupts, HandsMove, ProcessGoes, Notes, Begins}
 use Rattle.run_model.specs.Lawful.{Follows}
 use Rattle.run_model.proofs.NextUnits.{kind_of}
 use Rattle.run_model.proofs.After.{after_count}
@@ -169,8 +169,8 @@ next_turn A s pid k u f h n = go (kind_of A s u h)
         let x = comes_turn A s s.mark pid k p f c in
         under_turn A (turned A s pid k) u e (in_turn (goes_on A s pid (k + turn_instructions)) x.1 (is_out s.place pid) x.2 ∙ some u (entries.SwapIn pid) (i ∙ ap (λ (y : ℕ). entries.SwapIn y) x.0))
     go (Interrupts e j i) = other marks.Interrupt j (λ z. z)
-    go (Moves count e j l w i) = other (marks.Hands count) j (λ z. z)
-    go (PutsOut p e j i) = other (marks.PutOut p) j (λ z. z)
+    go (HandsMove count e j l w i) = other (marks.Hands count) j (λ z. z)
+    go (ProcessGoes p e j i) = other (marks.PutOut p) j (λ z. z)
     go (Notes e j i) = other marks.Audit j (λ z. z)
     go (Begins e j i) = absurd (let z : true ≡ false = sym (mark_boundary A s u i) ∙ n in cc)
 

@@ -23,7 +23,7 @@ use Rattle.run_model.specs.Wanted.{wanted}
 use Rattle.run_model.specs.After.{after}
 use Rattle.run_model.specs.Act.{must_refuse, must_settle}
 use Rattle.run_model.specs.Next.{when, or_else, work_by, turn_by, turn_unit, goes_on, turn_instructions, under, pid_if, next_ready, next_turned, last_turned, turn_of, line_or_turn, next_mark, next_unit}
-use Rattle.run_model.specs.Kinds.{GoesOn, ProcessRuns, Kind, Fills, Brings, Copies, ServesWanted, Acts, ProcessComes, Interrupts, Moves, PutsOut, Notes, Begins}
+use Rattle.run_model.specs.Kinds.{GoesOn, ProcessRuns, Kind, Fills, Brings, Copies, ServesWanted, Acts, ProcessComes, Interrupts, HandsMove, ProcessGoes, Notes, Begins}
 use Rattle.run_model.specs.Lawful.{Follows}
 use Rattle.run_model.proofs.After.{after_count}
 use Rattle.run_model.proofs.NextUnits.{kind_of}
@@ -108,8 +108,8 @@ begun A s u h m = go (kind_of A s u h)
     go (Acts pid now r w a) = acts pid (acted A s pid u a)
     go (ProcessComes pid e c i) = other (entries.SwapIn pid) i (λ z. z)
     go (Interrupts e k i) = other entries.Done i (λ z. z)
-    go (Moves count e k l w i) = paging _ i (Rattle.run_laws.proofs.Plain.move_paging s.place (Rattle.run_model.specs.Wanted.locked A s))
-    go (PutsOut pid e k i) = Rattle.page_laws.proofs.Swapper.PuttingOut.unit_case (λ (x : Entry). u ≡ x → Begun A s u) s.place pid
+    go (HandsMove count e k l w i) = paging _ i (Rattle.run_laws.proofs.Plain.move_paging s.place (Rattle.run_model.specs.Wanted.locked A s))
+    go (ProcessGoes pid e k i) = Rattle.page_laws.proofs.Swapper.PuttingOut.unit_case (λ (x : Entry). u ≡ x → Begun A s u) s.place pid
         (Rattle.page_model.specs.Place.space_of_process (process_of s.point.flat pid))
         (λ t ts z j. other entries.Done j (λ y. y)) (λ v a z y j. other _ j (λ x. x)) (λ a z j. other _ j (λ x. x)) i
     go (Notes e k i) = other _ i (λ z. z)

@@ -27,7 +27,7 @@ use Rattle.run_model.specs.State.{State}
 use Rattle.run_model.specs.After.{place_at, after}
 use Rattle.run_model.specs.Wanted.{locked}
 use Rattle.run_model.specs.Next.{fill_by, fill_unit, begins_write, move_by, move_unit, next_unit}
-use Rattle.run_model.specs.Kinds.{Kind, Fills, Brings, Copies, ServesWanted, Acts, ProcessComes, Interrupts, Moves, PutsOut, Notes, Begins}
+use Rattle.run_model.specs.Kinds.{Kind, Fills, Brings, Copies, ServesWanted, Acts, ProcessComes, Interrupts, HandsMove, ProcessGoes, Notes, Begins}
 use Rattle.run_model.specs.Lawful.{Follows}
 use Rattle.run_model.proofs.NextUnits.{kind_of}
 use Rattle.run_laws.specs.Standing.{machine_of, Placed}
@@ -95,8 +95,8 @@ kind_puts A s u (Acts pid now r w a) = by (acted A s pid u a)
     by (Steps f g i) = flat_puts s.place u pid (steps_own A s.point pid u i)
 kind_puts A s u (ProcessComes pid e c i) = subst (PutsDirty s.place) (sym i) tt
 kind_puts A s u (Interrupts e j i) = subst (PutsDirty s.place) (sym i) tt
-kind_puts A s u (Moves count e j l w i) = subst (PutsDirty s.place) (sym i) (move_puts s.place (locked A s))
-kind_puts A s u (PutsOut pid e j i) = subst (PutsDirty s.place) (sym i)
+kind_puts A s u (HandsMove count e j l w i) = subst (PutsDirty s.place) (sym i) (move_puts s.place (locked A s))
+kind_puts A s u (ProcessGoes pid e j i) = subst (PutsDirty s.place) (sym i)
     (unit_case (PutsDirty s.place) s.place pid (space_of_process (process_of s.point.flat pid)) (λ t ts h. tt) (λ v a h k d. run_put_dirty s.place v d) (λ a h. tt))
 kind_puts A s u (Notes e j i) = subst (PutsDirty s.place) (sym i) tt
 kind_puts A s u (Begins e j i) = begins_is (PutsDirty s.place) A s u i (λ x k. mark_puts s.place x k)

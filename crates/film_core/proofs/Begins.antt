@@ -26,14 +26,14 @@ use Rattle.run_laws.proofs.Lawful.{follows_state}
 use Rattle.run_laws.proofs.Registers.{start_regs_are}
 use Rattle.run_units.proofs.Swapping.{line_comes, turn_comes}
 use Rattle.flat_model.specs.Run.{IsBetween}
-use Rattle.journal_laws.specs.Leads.{Leads}
-use Rattle.journal_laws.specs.Serving.{At}
-use Rattle.journal_laws.proofs.Journals.{leads_follow}
-use Rattle.journal_laws.proofs.Units.{leads_at}
+use Rattle.run_units.specs.Leads.{Leads}
+use Rattle.run_units.specs.Serving.{At}
+use Rattle.run_units.proofs.Journals.{leads_follow}
+use Rattle.run_units.proofs.Units.{leads_at}
 use Rattle.vm_core.specs.Leading.{IsTold, machine_at_start, StartLeads, StartStops}
 use Rattle.step_units.specs.Lines.{IsOver}
 use Rattle.step_units.specs.Stepped.{StopsNext}
-use Rattle.journal_laws.specs.Stops.{StaysPut}
+use Rattle.run_units.specs.Stops.{StaysPut}
 use Rattle.vm_core.proofs.Led.{stands_at_start}
 use Rattle.vm_core.specs.Choosing.{turn_after as chosen_next}
 use Rattle.vm_core.proofs.Ready.{turned_same}

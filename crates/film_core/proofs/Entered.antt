@@ -18,8 +18,8 @@ use Rattle.run_model.specs.After.{after}
 use Rattle.run_model.specs.Lawful.{Follows}
 use Rattle.run_model.proofs.After.{after_journal, units_journal}
 use Rattle.run_laws.proofs.Lawful.{follows_state}
-use Rattle.journal_laws.proofs.Journals.{leads_follow}
-use Rattle.journal_laws.proofs.Units.{none_leads}
+use Rattle.run_units.proofs.Journals.{leads_follow}
+use Rattle.run_units.proofs.Units.{none_leads}
 use Rattle.step_units.specs.Stepped.{LeadsFrom, StopsFrom}
 use Rattle.vm_core.specs.Cores.{StandsIn}
 use Rattle.vm_core.specs.Schedules.{HaveFewMoves}

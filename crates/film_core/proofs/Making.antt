@@ -23,9 +23,9 @@ use Rattle.run_model.specs.Lawful.{Follows}
 use Rattle.run_model.proofs.After.{units_journal}
 use Rattle.run_laws.specs.Machine.{StandsAt}
 use Rattle.run_laws.proofs.Lawful.{follows_state}
-use Rattle.journal_laws.specs.Leads.{Leads}
-use Rattle.journal_laws.specs.Stops.{SpoilsBy}
-use Rattle.journal_laws.proofs.Journals.{leads_follow}
+use Rattle.run_units.specs.Leads.{Leads}
+use Rattle.run_units.specs.Stops.{SpoilsBy}
+use Rattle.run_units.proofs.Journals.{leads_follow}
 use Rattle.step_units.specs.Sizes.{KeptAtStop}
 use Rattle.step_units.specs.Stepped.{StopsNext, StopLeads, AtSome, LeadsFrom, StopsFrom}
 use Rattle.vm_core.specs.Cores.{StandsIn}

@@ -22,7 +22,7 @@ use Rattle.run_model.specs.State.{State, runners}
 use Rattle.run_model.specs.Wanted.{locked}
 use Rattle.run_model.specs.After.{interrupt_mark, swap_mark, mark_of_event, mark_of_line, completed, moved_on, brought_in, put_out, audited, after}
 use Rattle.run_model.specs.Next.{when, line_or_turn, turn_of, next_turned, last_turned, next_mark, next_unit}
-use Rattle.run_model.specs.Kinds.{Kind, Fills, Brings, Copies, ServesWanted, Acts, ProcessComes, Interrupts, Moves, PutsOut, Notes, Begins}
+use Rattle.run_model.specs.Kinds.{Kind, Fills, Brings, Copies, ServesWanted, Acts, ProcessComes, Interrupts, HandsMove, ProcessGoes, Notes, Begins}
 use Rattle.run_model.specs.Lawful.{Follows}
 use Rattle.run_model.proofs.After.{units_journal}
 use Rattle.run_model.proofs.NextUnits.{kind_of}
@@ -30,7 +30,7 @@ use Rattle.run_laws.proofs.Lawful.{all_units, follows_state}
 use Rattle.run_laws.proofs.Flows.{Acted, Settles, Refuses, Steps, acted, steps_own}
 use Rattle.run_laws.proofs.Plain.{IsPaging, serve_paging, zero_paging, copy_paging, move_paging}
 use Rattle.run_laws.proofs.Settling.{IsMark}
-use Rattle.journal_laws.specs.Serving.{At}
+use Rattle.run_units.specs.Serving.{At}
 use Rattle.swapper.specs.Runners.{runners_of}
 use Rattle.step_units.proofs.Choosing.{runners_same}
 use Rattle.vm_core.specs.Schedules.{HaveFewMoves}

@@ -17,9 +17,9 @@ use Rattle.run_model.specs.declared.mark.Mark.{Mark}
 use Rattle.run_model.specs.declared.mark.Mark.TheVariants as marks
 use Rattle.run_model.specs.State.{State}
 use Rattle.run_model.specs.Next.{under, goes_on, turn_instructions, turn_unit, when, last_turned}
-use Rattle.journal_laws.specs.Leads.{Leads}
-use Rattle.journal_laws.specs.Moved.{Moved, moving_hands}
-use Rattle.journal_laws.specs.Stops.{StopsAt, StopsWhile}
+use Rattle.run_units.specs.Leads.{Leads}
+use Rattle.run_units.specs.Moved.{Moved, moving_hands}
+use Rattle.run_units.specs.Stops.{StopsAt, StopsWhile}
 use Rattle.run_units.proofs.Swapping.{line_asks}
 use Rattle.step_units.specs.Stepped.{StopLeads, LeadsFrom, StopsFrom}
 use Rattle.step_units.specs.Lines.{LineLeads}

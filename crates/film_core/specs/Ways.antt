@@ -14,7 +14,7 @@ use Rattle.run_model.specs.State.{State, start}
 use Rattle.run_model.specs.Next.{next_unit, last_turned}
 use Rattle.run_model.specs.Lawful.{Follows}
 use Rattle.run_laws.specs.Running.{CanRun}
-use Rattle.journal_laws.specs.Leads.{Leads}
+use Rattle.run_units.specs.Leads.{Leads}
 use Rattle.step_units.specs.Machines.{MachineAt}
 use Rattle.step_units.specs.Stepped.{StepLeads}
 use Rattle.step_units.specs.Lines.{IsOver, IsClear}

@@ -7,7 +7,7 @@ ghost use Rattle.vm_facts.specs.declared.event.Event.{Event as AnyEvent};
 ghost use Rattle.flat_state.specs.Journal.{instructions_of, counted as entry_counts};
 ghost use Rattle.machine_state.specs.Going.{CanGoOn, IsRunning};
 ghost use Rattle.machine_state.specs.Outside.{Asks, IsBacked, stop_of, TransfersPages};
-ghost use Rattle.journal_laws.specs.LastMoves.{last_moves};
+ghost use Rattle.run_units.specs.LastMoves.{last_moves};
 ghost use Rattle.step_units.specs.Sizes.{KeptAtStop};
 ghost use Rattle.step_units.specs.Stepped.{AtSome, LeadsFrom, StopsFrom};
 ghost use Rattle.vm_core.specs.Choosing.{turn_after};

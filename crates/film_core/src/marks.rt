@@ -3,7 +3,7 @@
 ghost use Rattle.std.specs.Prelude.{◌≡◌, ◌≤◌, ◌↔◌, true};
 ghost use Rattle.flat_state.specs.Journal.{counted};
 ghost use Rattle.machine_state.specs.Going.{IsRunning};
-ghost use Rattle.journal_laws.specs.LastMoves.{last_moves};
+ghost use Rattle.run_units.specs.LastMoves.{last_moves};
 ghost use Rattle.swapper.specs.Spans.{moves};
 ghost use Rattle.run_model.specs.Next.{last_turned};
 ghost use Rattle.swapper.specs.Runners.{choice_of};

@@ -13,9 +13,9 @@ ghost use Rattle.vm_core.specs.Runs.{IsSteady};
 ghost use Rattle.film_core.specs.Ways.{StaysOn, RestAt, RestDone};
 
 use io_edge::{Files, SwapDev};
-use journal_laws::clock_hands::move_hands;
 use machine_state::Machine;
 use run_model::Mark;
+use run_units::clock_hands::move_hands;
 use std::alloc::Global;
 use vm_core::proc_run::{DecodeCache, Patience, can_step, run};
 use vm_core::swapper::{swap_in, swap_out};

@@ -3,7 +3,7 @@ ghost use Rattle.io_edge.specs.WithFiles.{stores};
 ghost use Rattle.std.specs.Prelude.{◌≡◌, ◌+◌, ◌<◌, ◌≤◌, ◌^◌, length, IfOk, IfErr};
 ghost use Rattle.flat_state.specs.Journal.{instructions_of};
 ghost use Rattle.machine_state.specs.Outside.{Asks, stop_of, TransfersPages};
-ghost use Rattle.journal_laws.specs.LastMoves.{last_moves};
+ghost use Rattle.run_units.specs.LastMoves.{last_moves};
 ghost use Rattle.step_units.specs.Sizes.{KeptAtStop};
 ghost use Rattle.step_units.specs.Stepped.{AtSome, LeadsFrom, StopsFrom};
 ghost use Rattle.vm_core.specs.Running.{CountsTo};

@@ -1,14 +1,14 @@
 -- What a grade says of the trace that was read.
 use Rattle.std.proofs.Common.{◌≡◌, inl, inr, ℕ, List, Option, Some, None, Ok, Err, refl, sym, ap, ◌∙◌, subst}
 use Rattle.vm_facts.specs.declared.entry.Entry.{Entry}
-use Rattle.command_ending.specs.declared.fault.Fault.{Fault}
-use Rattle.command_ending.specs.declared.fault.Fault.TheVariants as faults
-use Rattle.command_ending.specs.Ending.{Ending}
-use Rattle.command_ending.specs.Command.{Faults, NoFaults, EndCounted}
+use Rattle.command_edge.specs.declared.fault.Fault.{Fault}
+use Rattle.command_edge.specs.declared.fault.Fault.TheVariants as faults
+use Rattle.command_edge.specs.Ending.{Ending}
+use Rattle.command_edge.specs.Command.{Faults, NoFaults, EndCounted}
 use Rattle.question_command.specs.Asking.{Subject}
-use Rattle.grade_check.specs.declared.grading.Grade.{Grade}
-use Rattle.grade_check.specs.declared.grading.Grade.TheVariants.{Written, Front, Differs}
-use Rattle.grade_check.specs.Grading.{IsGraded}
+use Rattle.grade_command.specs.declared.grading.Grade.{Grade}
+use Rattle.grade_command.specs.declared.grading.Grade.TheVariants.{Written, Front, Differs}
+use Rattle.grade_command.specs.Grading.{IsGraded}
 use Rattle.grade_command.specs.declared.judging.Graded.{Graded}
 use Rattle.grade_command.specs.Telling.{written_line, policy_line, parted_text, parted_text_if, TellsGrade, IsGradeEnding}
 use Rattle.grade_command.specs.Reading.{TraceRead}

@@ -5,16 +5,16 @@ use Rattle.io_edge.specs.FileHolding.{NamedFile}
 use Rattle.vm_facts.specs.declared.entry.Entry.{Entry}
 use Rattle.vm_facts.specs.declared.event.Event.{Event}
 use Rattle.flat_state.specs.Flat.{Inputs}
-use Rattle.run_files.specs.declared.answers.Unread.{Unread}
-use Rattle.run_files.specs.declared.answers.Unread.TheVariants as unreads
-use Rattle.run_files.specs.ImageWords.{image_names, first_images}
+use Rattle.command_edge.specs.declared.answers.Unread.{Unread}
+use Rattle.command_edge.specs.declared.answers.Unread.TheVariants as unreads
+use Rattle.command_edge.specs.ImageWords.{image_names, first_images}
 use Rattle.replay_check.specs.Images.{FlatFile}
-use Rattle.command_ending.specs.declared.fault.Fault.{Fault}
-use Rattle.command_ending.specs.declared.fault.Fault.TheVariants as faults
-use Rattle.command_ending.specs.Named.{Why, AnswersNamed}
-use Rattle.command_ending.specs.Command.{Faults, NoFaults, OpenFailed, EndCounted, Made}
-use Rattle.command_ending.proofs.Counting.{one_then}
-use Rattle.command_ending.proofs.Makings.{made_where, made_nothing}
+use Rattle.command_edge.specs.declared.fault.Fault.{Fault}
+use Rattle.command_edge.specs.declared.fault.Fault.TheVariants as faults
+use Rattle.command_edge.specs.Named.{Why, AnswersNamed}
+use Rattle.command_edge.specs.Command.{Faults, NoFaults, OpenFailed, EndCounted, Made}
+use Rattle.command_edge.proofs.Counting.{one_then}
+use Rattle.command_edge.proofs.Makings.{made_where, made_nothing}
 use Rattle.run_opening.specs.Schedules.{schedule_found, HasEvents, EndsSchedule}
 use Rattle.replay_command.specs.Reading.{HasEntries, EndsTranscript, FaultsBy, images_told}
 use Rattle.replay_command.proofs.Replays.{whole}

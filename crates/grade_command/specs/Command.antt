@@ -6,16 +6,16 @@ use Rattle.flat_state.specs.Flat.{Inputs}
 use Rattle.flat_model.specs.Asked.{start_held}
 use Rattle.run_model.specs.State.{State}
 use Rattle.run_model.specs.Lawful.{IsFinished}
-use Rattle.run_files.specs.declared.answers.Unread.TheVariants as unreads
-use Rattle.command_ending.specs.declared.fault.Fault.{Fault}
-use Rattle.command_ending.specs.declared.fault.Fault.TheVariants.{Absent, NotImage, BadSchedule, FileFault, NoMemory, NoSpace, BadTranscript, TooLong, NotAsWritten, WrittenSoFar}
-use Rattle.command_ending.specs.Ending.{Ending}
-use Rattle.command_ending.specs.Command.{Faults, NoFaults, FailedBehind, Completes}
+use Rattle.command_edge.specs.declared.answers.Unread.TheVariants as unreads
+use Rattle.command_edge.specs.declared.fault.Fault.{Fault}
+use Rattle.command_edge.specs.declared.fault.Fault.TheVariants.{Absent, NotImage, BadSchedule, FileFault, NoMemory, NoSpace, BadTranscript, TooLong, NotAsWritten, WrittenSoFar}
+use Rattle.command_edge.specs.Ending.{Ending}
+use Rattle.command_edge.specs.Command.{Faults, NoFaults, FailedBehind, Completes}
 use Rattle.run_opening.specs.Schedules.{HasBadEvent}
 use Rattle.replay_command.specs.Reading.{HasEntries, HasBadLine}
 use Rattle.question_command.specs.Reading.{HasSchedule}
 use Rattle.question_command.specs.Asking.{Subject, AreInputsOf}
-use Rattle.grade_check.specs.Grading.{IsFrontOf, PartsAt}
+use Rattle.grade_command.specs.Grading.{IsFrontOf, PartsAt}
 use Rattle.grade_command.specs.declared.judging.Graded.{Graded}
 use Rattle.grade_command.specs.Telling.{written_line, TellsGrade}
 use Rattle.grade_command.specs.Reading.{TraceRead, trace_told, HasTexts, LacksRunImage}

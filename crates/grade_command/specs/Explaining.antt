@@ -2,10 +2,10 @@
 use Rattle.std.specs.Prelude.{◌≡◌, ◌⊎◌, ℕ, ◌-◌, List, slice_get, Option, Some, None, Err}
 use Rattle.vm_facts.specs.declared.entry.Entry.{Entry}
 use Rattle.io_edge.specs.FileHolding.{NamedFile}
-use Rattle.command_ending.specs.declared.fault.Fault.{Fault}
-use Rattle.command_ending.specs.Command.{Faults, Made}
+use Rattle.command_edge.specs.declared.fault.Fault.{Fault}
+use Rattle.command_edge.specs.Command.{Faults, Made}
 use Rattle.question_command.specs.Asking.{Subject}
-use Rattle.grade_check.specs.Grading.{IsFrontOf, PartsAt}
+use Rattle.grade_command.specs.Grading.{IsFrontOf, PartsAt}
 use Rattle.grade_command.specs.Telling.{policy_line}
 use Rattle.grade_command.specs.Reading.{TraceRead, trace_told}
 use Rattle.grade_command.specs.Command.{IsSoOfTrace, EndsReading}

@@ -13,9 +13,11 @@ pub use Rattle.question_command.specs.Question
 pub use Rattle.question_command.specs.Reading as ReferenceCommandsReading
 pub use Rattle.question_command.specs.Answering
 pub use Rattle.question_command.specs.Ends
-pub use Rattle.question_command.specs.RunHeadline
 pub use Rattle.question_command.specs.Naming
 pub use Rattle.question_command.specs.InMemory
+pub mod Same
+pub mod Grading
+pub mod Along
 pub mod Telling
 pub mod Reading
 pub mod Command

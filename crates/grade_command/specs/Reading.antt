@@ -2,9 +2,9 @@
 use Rattle.std.specs.Prelude.{◌≡◌, ℕ, List, Option, Result, Err}
 use Rattle.io_edge.specs.FileHolding.{NamedFile}
 use Rattle.vm_facts.specs.declared.entry.Entry.{Entry}
-use Rattle.run_files.specs.declared.answers.Unread.{Unread}
-use Rattle.run_files.specs.Told.{whole_told}
-use Rattle.command_ending.specs.Named.{Why}
+use Rattle.command_edge.specs.declared.answers.Unread.{Unread}
+use Rattle.command_edge.specs.Told.{whole_told}
+use Rattle.command_edge.specs.Named.{Why}
 use Rattle.replay_command.specs.Reading.{transcript_bytes, HasEntries}
 use Rattle.question_command.specs.Reading.{Read as RunRead, read_told as run_told, HasSchedule}
 use Rattle.question_command.specs.Asking.{Subject}

@@ -4,12 +4,12 @@ use Rattle.vm_facts.specs.declared.entry.Entry.{Entry}
 use Rattle.flat_state.specs.Flat.{Inputs}
 use Rattle.flat_model.specs.Asked.{start_held}
 use Rattle.run_text.specs.Text.{line_of}
-use Rattle.command_ending.specs.declared.fault.Fault.{Fault}
-use Rattle.command_ending.specs.declared.fault.Fault.TheVariants.{NoMemory, NoSpace, NotAsWritten, WrittenSoFar}
-use Rattle.command_ending.specs.Ending.{Ending}
-use Rattle.grade_check.specs.declared.grading.Grade.{Grade}
-use Rattle.grade_check.specs.declared.grading.Grade.TheVariants.{Written, Front, Differs}
-use Rattle.grade_check.specs.Grading.{IsGraded}
+use Rattle.command_edge.specs.declared.fault.Fault.{Fault}
+use Rattle.command_edge.specs.declared.fault.Fault.TheVariants.{NoMemory, NoSpace, NotAsWritten, WrittenSoFar}
+use Rattle.command_edge.specs.Ending.{Ending}
+use Rattle.grade_command.specs.declared.grading.Grade.{Grade}
+use Rattle.grade_command.specs.declared.grading.Grade.TheVariants.{Written, Front, Differs}
+use Rattle.grade_command.specs.Grading.{IsGraded}
 use Rattle.grade_command.specs.declared.judging.Graded.{Graded}
 
 -- the line of a trace that is the whole journal

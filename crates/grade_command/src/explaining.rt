@@ -7,10 +7,10 @@ ghost use Rattle.grade_command.specs.Telling.{parted_text_if};
 ghost use Rattle.grade_command.specs.Explaining.{ExplainsGrade, LacksPolicy};
 
 use crate::command::grade_from;
+use crate::grading::Grade;
 use crate::judging::Graded;
-use command_ending::Fault;
+use command_edge::Fault;
 use command_words::Numbers;
-use grade_check::Grade;
 use io_edge::Files;
 use std::alloc::Global;
 

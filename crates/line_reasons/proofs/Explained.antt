@@ -1,9 +1,9 @@
 -- What is told of a file that was read.
 use Rattle.std.proofs.Common.{◌≡◌, ◌∙◌, ℕ, List, Option, Some, Ok, ap, subst}
 use Rattle.io_edge.specs.FileHolding.{NamedFile}
-use Rattle.reference_text.specs.Grammar.{IsReadReferences}
-use Rattle.reference_text.specs.declared.answers.References.{References}
-use Rattle.policy_command.specs.Command.{references_told}
+use Rattle.reference_answers.specs.Grammar.{IsReadReferences}
+use Rattle.reference_answers.specs.declared.references.References.{References}
+use Rattle.reference_answers.specs.Command.{references_told}
 use Rattle.line_reasons.specs.ReferenceExplaining.{references_explained, ExplainsReferences, Read}
 
 pub told_by : (name bytes slice : List ℕ) (holds : Option (List NamedFile)) (reads : References) (text : Option (List ℕ))

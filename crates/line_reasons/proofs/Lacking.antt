@@ -1,10 +1,10 @@
 -- Why a schedule isn't explained.
 use Rattle.std.proofs.Common.{◌≡◌, ℕ, List, Option, Some, Err}
 use Rattle.io_edge.specs.FileHolding.{NamedFile}
-use Rattle.run_files.specs.declared.answers.Unread.{Unread}
-use Rattle.run_files.specs.declared.answers.Unread.TheVariants.{Absent, NotImage, FileFault, NoMemory}
-use Rattle.run_files.specs.Answering.{Answers, IsOfAnyFile}
-use Rattle.run_files.specs.Told.{bytes_told}
+use Rattle.command_edge.specs.declared.answers.Unread.{Unread}
+use Rattle.command_edge.specs.declared.answers.Unread.TheVariants.{Absent, NotImage, FileFault, NoMemory}
+use Rattle.command_edge.specs.Answering.{Answers, IsOfAnyFile}
+use Rattle.command_edge.specs.Told.{bytes_told}
 use Rattle.run_opening.specs.Schedules.{schedule_bytes}
 use Rattle.line_reasons.specs.ScheduleExplaining.{LacksSchedule}
 

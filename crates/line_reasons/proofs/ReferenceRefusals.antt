@@ -14,7 +14,7 @@ use Rattle.run_text.proofs.Events.{digits_no}
 use Rattle.run_text.proofs.Words.{decimal_value, decimal_no_space}
 use Rattle.run_text.proofs.LineEnds.{is_other}
 use Rattle.run_text.proofs.WrittenLines.{no_both}
-use Rattle.reference_text.specs.Grammar.{IsReference, IsLineText, IsReferenceLine}
+use Rattle.reference_answers.specs.Grammar.{IsReference, IsLineText, IsReferenceLine}
 use Rattle.line_reasons.specs.Lines.{ends_in, text_in, word_in, rest_in}
 use Rattle.line_reasons.specs.FirstReason.{or_else}
 use Rattle.line_reasons.proofs.Cuts.{ends_so, text_of, line_of, ends_not, any_not, text_cut, text_whole, word_before, rest_after, word_alone, rest_none, is_byte}

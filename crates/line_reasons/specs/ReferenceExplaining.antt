@@ -1,13 +1,13 @@
 -- Why a file of references is bad, as a line of text.
 use Rattle.std.specs.Prelude.{◌≡◌, ℕ, List, [], ◌∷◌, ◌++◌, codes, decimal, Option, Some, None, Ok, Err}
 use Rattle.io_edge.specs.FileHolding.{NamedFile}
-use Rattle.run_files.specs.declared.answers.Unread.{Unread}
-use Rattle.run_files.specs.declared.answers.Unread.TheVariants.{Absent, NotImage, FileFault, NoMemory}
-use Rattle.reference_text.specs.Grammar.{IsReadReferences}
-use Rattle.reference_text.specs.declared.answers.References.{References}
-use Rattle.reference_text.specs.declared.answers.References.TheVariants.{Are, BadLine}
+use Rattle.command_edge.specs.declared.answers.Unread.{Unread}
+use Rattle.command_edge.specs.declared.answers.Unread.TheVariants.{Absent, NotImage, FileFault, NoMemory}
+use Rattle.reference_answers.specs.Grammar.{IsReadReferences}
+use Rattle.reference_answers.specs.declared.references.References.{References}
+use Rattle.reference_answers.specs.declared.references.References.TheVariants.{Are, BadLine}
 use Rattle.line_reasons.specs.Shown.{shown}
-use Rattle.policy_command.specs.Command.{references_told}
+use Rattle.reference_answers.specs.Command.{references_told}
 use Rattle.line_reasons.specs.declared.references.Argument.{Argument}
 use Rattle.line_reasons.specs.declared.references.Argument.TheVariants.{Owner, Place}
 use Rattle.line_reasons.specs.ReferenceReasons.{Why, CarriageReturn, Tab, Blank, NoReference, Missing, NotNumber, TooMany, NoLineFeed, TooManyReferences, why_at}

@@ -3,7 +3,7 @@ use Rattle.std.specs.Prelude.{ℕ, Bool, ◌&&◌, ◌||◌, nat_le, ◌==◌, L
 use Rattle.std.specs.List.{list_any}
 use Rattle.std.specs.Str.Parse.{digits_value}
 use Rattle.vm_facts.specs.declared.page.Page.{Page}
-use Rattle.reference_text.specs.Grammar.{IsReferenceLine}
+use Rattle.reference_answers.specs.Grammar.{IsReferenceLine}
 use Rattle.line_reasons.specs.Lines.{line_at, ends_in, text_in, word_in, rest_in}
 use Rattle.line_reasons.specs.FirstReason.{or_else}
 use Rattle.line_reasons.specs.declared.references.Argument.{Argument}

@@ -5,9 +5,9 @@ use Rattle.io_edge.specs.FileHolding.{NamedFile}
 use Rattle.run_text.specs.Schedule.{IsReadSchedule}
 use Rattle.run_text.specs.declared.answers.Schedule.{Schedule}
 use Rattle.run_text.specs.declared.answers.Schedule.TheVariants.{Is, BadLine}
-use Rattle.run_files.specs.declared.answers.Unread.{Unread}
-use Rattle.run_files.specs.declared.answers.Unread.TheVariants.{Absent, NotImage, FileFault, NoMemory}
-use Rattle.run_files.specs.Told.{bytes_told}
+use Rattle.command_edge.specs.declared.answers.Unread.{Unread}
+use Rattle.command_edge.specs.declared.answers.Unread.TheVariants.{Absent, NotImage, FileFault, NoMemory}
+use Rattle.command_edge.specs.Told.{bytes_told}
 use Rattle.run_opening.specs.Schedules.{schedule_bytes}
 use Rattle.line_reasons.specs.Shown.{shown}
 use Rattle.line_reasons.specs.declared.schedule.Argument.{Argument}

@@ -1,17 +1,15 @@
 //! The line that tells why a file of references is bad: its name, the line's number, and the reason.
 ghost use Rattle.std.specs.Prelude.{◌≡◌, ◌++◌, IfOk, IfErr, OnOk, option_map};
 ghost use Rattle.io_edge.specs.Calls.{KeepsFiles};
-ghost use Rattle.run_files.specs.Answering.{CountsFault};
+ghost use Rattle.command_edge.specs.Answering.{CountsFault};
 ghost use Rattle.line_reasons.specs.ReferenceReasons.{why_of, Missing, NoLineFeed, TooManyReferences};
 ghost use Rattle.line_reasons.specs.ReferenceExplaining.{argument_name, range_text, why_text, why_line, ExplainsReferences, LacksReferences};
 
 use crate::references::{Argument, Reason, bad_line};
 use crate::telling::shown;
-use command_ending::put_number;
+use command_edge::{Unread, put_number, read_whole};
 use io_edge::Files;
-use policy_command::REFERENCES_BYTES;
-use reference_text::{References, read_references};
-use run_files::{Unread, read_whole};
+use reference_answers::{REFERENCES_BYTES, References, read_references};
 use std::alloc::{AllocError, Global};
 
 fn argument_name(argument: Argument) -> &'static [u8]

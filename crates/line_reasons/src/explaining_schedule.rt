@@ -1,15 +1,14 @@
 //! The line that tells why a schedule is bad: its name, the line's number, and the reason.
 ghost use Rattle.std.specs.Prelude.{◌≡◌, ◌++◌, IfOk, IfErr, OnOk, option_map};
 ghost use Rattle.io_edge.specs.Calls.{KeepsFiles};
-ghost use Rattle.run_files.specs.Answering.{CountsFault};
+ghost use Rattle.command_edge.specs.Answering.{CountsFault};
 ghost use Rattle.line_reasons.specs.ScheduleReasons.{why_of, Missing, Capital, NoLineFeed};
 ghost use Rattle.line_reasons.specs.ScheduleExplaining.{argument_name, range_text, given_text, why_text, why_line, line_explained, ExplainsSchedule, LacksSchedule};
 
 use crate::schedule::{Argument, Reason, bad_line};
 use crate::telling::shown;
-use command_ending::put_number;
+use command_edge::{Unread, put_number, read_file};
 use io_edge::Files;
-use run_files::{Unread, read_file};
 use run_opening::SCHEDULE_BYTES;
 use run_text::{Schedule, read_schedule};
 use std::alloc::{AllocError, Global};

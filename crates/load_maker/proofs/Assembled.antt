@@ -4,8 +4,8 @@ use Rattle.std.specs.Prelude.{⊤}
 use Rattle.std.specs.Fmt.{digits}
 use Rattle.std.proofs.lemmas.Bool.{cases_eq}
 use Rattle.vax_code.specs.Table.{all_rows}
-use Rattle.vax_asm.specs.Text.{after}
-use Rattle.vax_asm.specs.Numbers.{numeral_at, magnitude_at, signed_at, number_at}
+use Rattle.vax_asm.specs.Text.{behind_byte}
+use Rattle.vax_asm.specs.Numbers.{numeral_at, magnitude_at, signed_at, spelled_number_at}
 use Rattle.vax_asm.specs.Values.{label_at, value_label_at, value_number_at, value_at}
 use Rattle.vax_asm.specs.Operands.{register_number_at, register_at, in_parentheses_at, deferred_at, absolute_at, pointer_at, place_at, addressed_at, literal_at, immediate_at, plain_register_at, specifier_at, target_at, operand_at}
 use Rattle.vax_asm.specs.Mnemonics.{row_named}
@@ -20,7 +20,7 @@ use Rattle.load_maker.specs.Load.{w_bss, v_bss}
 -- ---- what is unfolded
 
 unfoldable numbers_read : ⊤
-unfolding after numeral_at magnitude_at signed_at number_at label_at value_label_at value_number_at value_at digits
+unfolding behind_byte numeral_at magnitude_at signed_at spelled_number_at label_at value_label_at value_number_at value_at digits
 numbers_read = tt
 
 unfoldable operands_read : ⊤

@@ -5,3 +5,17 @@ pub mod Imaged
 pub mod Ranged
 pub mod Counted
 pub mod Drawn
+pub mod Numbers
+pub mod Instructions
+pub mod Spaces
+pub mod Standings
+pub mod Sleepers
+pub mod Pieces
+pub mod Going
+pub mod Calling
+pub mod Changing
+pub mod Wanting
+pub mod Family
+pub mod Loading
+pub mod Ending
+pub mod Short

@@ -7,7 +7,7 @@ use Rattle.flat_state.specs.Journal.{instructions_of}
 use Rattle.flat_laws.specs.Others.{is_refusal}
 use Rattle.flat_laws.specs.Visible.{is_end}
 use Rattle.process_counts.specs.Counts.{output_length}
-use Rattle.command_ending.specs.Ending.{numbered_line}
+use Rattle.command_edge.specs.Ending.{numbered_line}
 use Rattle.load_maker.specs.declared.counts.Counts.{Counts}
 
 -- the system calls fork and vfork

@@ -1,6 +1,6 @@
 //! The six lines that tell what a load counted.
 ghost use Rattle.std.specs.Prelude.{◌≡◌, ◌++◌, IfOk, OnOk};
-ghost use Rattle.command_ending.specs.Ending.{numbered_line};
+ghost use Rattle.command_edge.specs.Ending.{numbered_line};
 ghost use Rattle.load_maker.specs.Counts.{load_text};
 
 use crate::counts::Counts;

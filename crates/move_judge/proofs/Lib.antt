@@ -5,3 +5,6 @@ pub mod Recorded
 pub mod Frames
 pub mod Alongside
 mod HandsMove
+mod Held
+mod Puts
+mod Residents

@@ -3,3 +3,5 @@ pub mod Judged
 pub mod Records
 pub mod PartJudged
 pub mod Over
+pub mod Holders
+pub mod Leaving

@@ -3,3 +3,12 @@ pub mod Owning
 pub mod Flights
 pub mod Pids
 pub mod Rising
+pub mod Carrying
+pub mod PlacesInARow
+pub mod Framing
+pub mod Places
+pub mod Telling
+pub mod Area
+pub mod Auditing
+pub mod First
+pub mod Registers

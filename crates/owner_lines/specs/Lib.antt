@@ -3,3 +3,7 @@ pub mod Carried
 pub mod Recorded
 pub mod Pieces
 pub mod FreePlaces
+pub mod Lines
+pub mod Told
+pub mod Account
+pub mod First

@@ -20,7 +20,7 @@ use Rattle.run_model.specs.declared.mark.Mark.TheVariants as marks
 use Rattle.run_model.specs.State.{State, start}
 use Rattle.run_model.specs.After.{after}
 use Rattle.run_model.specs.Next.{turn_instructions, owners_entry, last_turned, next_mark, next_unit}
-use Rattle.run_model.specs.Kinds.{Comes, Kind, Fills, Brings, Copies, ServesWanted, Acts, ProcessComes, Interrupts, Moves, PutsOut, Notes, Begins}
+use Rattle.run_model.specs.Kinds.{Comes, Kind, Fills, Brings, Copies, ServesWanted, Acts, ProcessComes, Interrupts, HandsMove, ProcessGoes, Notes, Begins}
 use Rattle.run_model.specs.Lawful.{Follows, Reaches}
 use Rattle.run_model.proofs.NextUnits.{kind_of}
 use Rattle.run_laws.specs.Standing.{MarkStands}
@@ -184,8 +184,8 @@ module _ (A : Inputs) (s : State) (m : Mark) (u : Entry) (h : next_unit A s ≡ 
       go (Acts pid now x w i) = act_fine A s m u h r a enough pid now x i
       go (ProcessComes pid e c i) = in_fine pid e c i
       go (Interrupts e k i) = done_fine A s m u h r a enough i (let x : (s.place.due ≡ []) × (0 < length s.place.transfers) = subst (MarkStands s) k r.mark in x.1)
-      go (Moves count e k l w i) = move_fine A s m u h r a enough count k w i
-      go (PutsOut pid e k i) = put_fine pid e k i
+      go (HandsMove count e k l w i) = move_fine A s m u h r a enough count k w i
+      go (ProcessGoes pid e k i) = put_fine pid e k i
       go (Notes e k i) = note_fine i
       go (Begins e k i) = mark_fine i
 

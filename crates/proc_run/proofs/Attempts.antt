@@ -19,7 +19,7 @@ use Rattle.machine_state.specs.Machine.{Standing}
 use Rattle.machine_state.specs.UserMemory.{CanLend, Wrote, writes_in}
 use Rattle.step_units.specs.Callers.{regs_of}
 use Rattle.run_model.specs.State.{State}
-use Rattle.touched_pages.proofs.Covering.{writes_none}
+use Rattle.proc_run.proofs.Covering.{writes_none}
 use Rattle.step_units.specs.Ready.{Continues}
 use Rattle.step_units.proofs.Running.{continues_from}
 use Rattle.step_units.proofs.Entries.{room_continues}

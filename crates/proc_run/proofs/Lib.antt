@@ -1,3 +1,11 @@
+pub mod Firsts
+pub mod Shows
+pub mod Covering
+pub mod Missing
+pub mod Calls
+pub mod Nexts
+pub mod RunsTouching
+mod Beginning
 pub mod Known
 pub mod Runs
 pub mod Ready

@@ -19,8 +19,8 @@ use Rattle.run_model.specs.State.{State}
 use Rattle.step_units.specs.Stepped.{CallLeads, LeadsFrom, StopsFrom}
 use Rattle.step_units.specs.Ready.{Continues}
 use Rattle.step_units.specs.Calls.{called_count}
-use Rattle.touched_pages.specs.Missed.{WritesNothing}
-use Rattle.touched_pages.proofs.RunUnitsCalling.{calls_write_none}
+use Rattle.proc_run.specs.Missed.{WritesNothing}
+use Rattle.run_units.proofs.Calling.{calls_write_none}
 use Rattle.proc_run.specs.declared.advancing.Advance.{Advance}
 use Rattle.proc_run.specs.declared.advancing.Advance.TheVariants as advances
 use Rattle.proc_run.specs.Calls.{own_answers, CallComes, CallStops, MadeCall}

@@ -13,7 +13,7 @@ use Rattle.step_units.specs.Callers.{regs_of}
 use Rattle.run_model.specs.State.{State}
 use Rattle.run_model.specs.Wanted.{locked}
 use Rattle.step_units.proofs.Tables.{regs_is, is_kept}
-use Rattle.touched_pages.specs.Touching.{RunsWith}
+use Rattle.proc_run.specs.Touching.{RunsWith}
 use Rattle.proc_run.specs.Runs.{RunsAt}
 use Rattle.proc_run.specs.Serving.{AreLocked}
 

@@ -42,7 +42,7 @@ use Rattle.proc_run.specs.Choosing.{can_run, steps_by, may_run}
 use Rattle.proc_run.specs.Stretch.{CarriesOn, Stretch, StretchOf, MissesByte, RanOne, RanOn}
 use Rattle.proc_run.specs.declared.stretch.Missed.{Missed}
 use Rattle.proc_run.proofs.Attempts.{no_room}
-use Rattle.touched_pages.proofs.Covering.{writes_none}
+use Rattle.proc_run.proofs.Covering.{writes_none}
 use Rattle.proc_run.proofs.Tried.{ran_advances, ran_goes_on}
 use Rattle.proc_run.proofs.Written.{writes_same}
 

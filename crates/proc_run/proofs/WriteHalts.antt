@@ -13,11 +13,11 @@ use Rattle.machine_state.specs.Outside.{stop_of, TransfersPages}
 use Rattle.machine_state.proofs.Transfers.{transfers_none}
 use Rattle.step_units.specs.Answered.{StopsReading}
 use Rattle.step_units.specs.Called.{Called}
-use Rattle.step_units.specs.Writing.{bytes_of, StopsOut}
+use Rattle.step_units.specs.Writing.{reply_bytes, StopsOut}
 
 -- how it stops by what it reads
 abbrev WriteHalts : Result Reply Refused → Standing → Standing → ℕ → Option SwapImage → Stop → Type 0
-WriteHalts read old new pid image stop = StopsReading read (λ reply before after. StopsOut old new pid (bytes_of reply)) old new image image stop
+WriteHalts read old new pid image stop = StopsReading read (λ reply before after. StopsOut old new pid (reply_bytes reply)) old new image image stop
 
 write_cause : (read : Result Reply Refused) (old new : Standing) (pid : ℕ) (image : Option SwapImage) (stop : Stop) → WriteHalts read old new pid image stop
     → (stop ≡ stops.JournalFull) ⊎ (stop ≡ stops.NoMemory)

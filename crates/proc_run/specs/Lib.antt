@@ -1,3 +1,7 @@
+pub mod Shown
+pub mod ShownLaws
+pub mod Missed
+pub mod Touching
 pub mod Choosing
 pub mod Runs
 pub mod Calls

@@ -6,7 +6,7 @@ ghost use Rattle.machine_state.specs.Going.{CanGoOn};
 ghost use Rattle.machine_state.specs.UserMemory.{CanLend};
 ghost use Rattle.machine_state.specs.Outside.{IsBacked, stop_of, TransfersPages};
 ghost use Rattle.step_units.specs.Callers.{regs_of};
-ghost use Rattle.touched_pages.specs.Missed.{WritesNothing};
+ghost use Rattle.proc_run.specs.Missed.{WritesNothing};
 ghost use Rattle.step_units.specs.Stepped.{LeadsFrom, StopsFrom};
 ghost use Rattle.step_units.specs.Ready.{Continues};
 ghost use Rattle.step_units.specs.Sizes.{KeptAtStop};
@@ -14,12 +14,12 @@ ghost use Rattle.proc_run.specs.Serving.{ServedBy, StopsServed};
 ghost use Rattle.proc_run.specs.Runs.{IsSteady, is_now, counts, WaitsAt, AdvancesTo};
 
 use crate::advancing::{Advance, Patience};
+use crate::touched_before;
 use io_edge::{Files, SwapDev};
 use machine_state::{Machine, or_stop};
 use std::alloc::Global;
 use step_units::fault_fill::{Served, serve, serve_now};
 use step_units::proc_calls::kill;
-use touched_pages::touched_before;
 use user_vax::SIGSEGV;
 use vm_facts::{Regs, Stop};
 

@@ -1,7 +1,7 @@
 -- What is told of a run that its limit cut.
 use Rattle.std.proofs.Common.{◌≡◌, ℕ, List, Option, Ok, sym, subst}
 use Rattle.io_edge.specs.FileHolding.{NamedFile}
-use Rattle.command_ending.specs.Command.{Faults, Made}
+use Rattle.command_edge.specs.Command.{Faults, Made}
 use Rattle.reference_commands.specs.declared.question.Question.TheVariants.{WasCut}
 use Rattle.reference_commands.specs.Reading.{read_told}
 use Rattle.reference_commands.specs.Asking.{Subject}

@@ -2,7 +2,7 @@
 use Rattle.std.proofs.Common.{◌≡◌, ℕ, List, map, Bor, sym, subst}
 use Rattle.std.specs.Prelude.{All}
 use Rattle.std.proofs.lemmas.List.Elements.{All-map}
-use Rattle.run_files.specs.ImageWords.{IsShortName, name_in, image_names}
+use Rattle.command_edge.specs.ImageWords.{IsShortName, name_in, image_names}
 use Rattle.run_opening.proofs.Lists.{All-of_map, All-image_names}
 
 abbrev now_of : List (Bor (List ℕ)) → List (List ℕ)

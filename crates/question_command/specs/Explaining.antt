@@ -1,8 +1,8 @@
 -- What is told of a run that its limit cut.
 use Rattle.std.specs.Prelude.{◌≡◌, ℕ, List, [], Option, Some, None, Err}
 use Rattle.io_edge.specs.FileHolding.{NamedFile}
-use Rattle.command_ending.specs.declared.fault.Fault.{Fault}
-use Rattle.command_ending.specs.Command.{Faults, Made}
+use Rattle.command_edge.specs.declared.fault.Fault.{Fault}
+use Rattle.command_edge.specs.Command.{Faults, Made}
 use Rattle.reference_commands.specs.declared.question.Question.TheVariants.{WasCut}
 use Rattle.reference_commands.specs.Reading.{Read, read_told}
 use Rattle.reference_commands.specs.Asking.{Subject}

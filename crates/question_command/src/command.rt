@@ -1,12 +1,12 @@
 //! The commands that ask about a run: words are read, the question is put, the answer written.
 ghost use Rattle.std.specs.Prelude.{◌≡◌, ◌≤◌, map, option_map, length, All, IfOk, IfErr};
 ghost use Rattle.io_edge.specs.Calls.{KeepsFiles};
-ghost use Rattle.run_files.specs.ImageWords.{IsShortName, image_names, first_images};
+ghost use Rattle.command_edge.specs.ImageWords.{IsShortName, image_names, first_images};
 ghost use Rattle.replay_check.specs.Images.{AreImageFiles};
 ghost use Rattle.command_words.specs.Command.{AreImageWords, IsFittingRun};
 ghost use Rattle.command_words.specs.declared.limits.TheConstants.{MOST_SHORT_LIMIT};
-ghost use Rattle.command_ending.specs.Ending.{ending_of};
-ghost use Rattle.command_ending.specs.Command.{EndCounted, Made};
+ghost use Rattle.command_edge.specs.Ending.{ending_of};
+ghost use Rattle.command_edge.specs.Command.{EndCounted, Made};
 ghost use Rattle.reference_commands.specs.Reading.{read_told};
 ghost use Rattle.reference_commands.specs.Asking.{IsQuestion, limit_of};
 ghost use Rattle.reference_commands.specs.Ends.{EndsQuestion, Answers};
@@ -14,7 +14,7 @@ ghost use Rattle.question_command.specs.Explaining.{told_text, ExplainsLimit, La
 ghost use Rattle.reference_commands.specs.InMemory.{inputs_with, IsRunnable, EndsAnswer, AllDiffer};
 
 use crate::asking::{FilmQuestion, film_answer};
-use command_ending::{Fault, write_ending};
+use command_edge::{Fault, write_ending};
 use command_words::Numbers;
 use io_edge::{Files, Sink};
 use reference_commands::{Question, curve_over, optimum_over, references_over, run_owners};

@@ -11,9 +11,9 @@ ghost use Rattle.flat_state.specs.Flat.{Inputs};
 ghost use Rattle.io_edge.specs.Octets.{AreOctetFiles};
 ghost use Rattle.machine_state.specs.Going.{IsRunning};
 ghost use Rattle.machine_state.specs.Outside.{IsBacked};
-ghost use Rattle.run_files.specs.ImageWords.{IsShortName};
+ghost use Rattle.command_edge.specs.ImageWords.{IsShortName};
 ghost use Rattle.replay_check.specs.Images.{AreImageFiles};
-ghost use Rattle.command_ending.specs.Ending.{ending_of};
+ghost use Rattle.command_edge.specs.Ending.{ending_of};
 ghost use Rattle.film_core.specs.Schedules.{HaveFewMoves};
 ghost use Rattle.film_core.specs.RunEnds.{IsAskedOf};
 ghost use Rattle.film_core.specs.Films.{IsFilming, IsUnbegun, FilmBegun};
@@ -25,7 +25,7 @@ ghost use Rattle.reference_commands.specs.declared.question.Question.TheVariants
 
 use crate::ending::finish_of;
 use crate::filming::goes_on;
-use command_ending::Fault;
+use command_edge::Fault;
 use command_words::{JOURNAL_ENTRIES, Numbers};
 use film_core::{Film, Started};
 use io_edge::{Files, SureFiles, SureSwap, SwapDev};

@@ -7,7 +7,7 @@ ghost use Rattle.flat_state.specs.Flat.{Inputs};
 ghost use Rattle.run_model.specs.State.{State};
 ghost use Rattle.machine_state.specs.Going.{IsRunning};
 ghost use Rattle.machine_state.specs.Outside.{IsBacked};
-ghost use Rattle.command_ending.specs.Ending.{ending_of};
+ghost use Rattle.command_edge.specs.Ending.{ending_of};
 ghost use Rattle.film_core.specs.Schedules.{HaveFewMoves};
 ghost use Rattle.reference_commands.specs.Machines.{journal_entries};
 ghost use Rattle.film_core.specs.Films.{IsFilming, FilmAt, FilmBegun};
@@ -18,7 +18,7 @@ ghost use Rattle.run_stats.specs.declared.finish.Finish.TheVariants.{Cut};
 ghost use Rattle.question_command.specs.Filmed.{IsAtState};
 
 use crate::filming::goes_on;
-use command_ending::{Fault, put_number};
+use command_edge::{Fault, put_number};
 use command_words::JOURNAL_ENTRIES;
 use film_core::Film;
 use io_edge::{Files, SwapDev};

@@ -9,11 +9,11 @@ ghost use Rattle.machine_state.specs.Outside.{IsBacked};
 ghost use Rattle.machine_state.specs.New.{AreSound};
 ghost use Rattle.machine_state.specs.Sourced.{AreNames};
 ghost use Rattle.machine_state.specs.Applying.{facts_named};
-ghost use Rattle.run_files.specs.ImageWords.{IsShortName};
+ghost use Rattle.command_edge.specs.ImageWords.{IsShortName};
 ghost use Rattle.run_text.specs.Text.{line_of};
 ghost use Rattle.owner_lines.specs.Owners.{word_if};
 ghost use Rattle.replay_check.specs.Images.{AreImageFiles};
-ghost use Rattle.command_ending.specs.Ending.{ending_of};
+ghost use Rattle.command_edge.specs.Ending.{ending_of};
 ghost use Rattle.command_words.specs.Command.{AreSteps};
 ghost use Rattle.command_words.specs.declared.limits.TheConstants.{MOST_FRAMES};
 ghost use Rattle.film_core.specs.Schedules.{HaveFewMoves};
@@ -26,7 +26,7 @@ ghost use Rattle.reference_commands.specs.InMemory.{file_of, inputs_with, AreOpe
 ghost use Rattle.question_command.specs.Filmed.{step_text, Filmed, IsAskable};
 ghost use Rattle.reference_commands.specs.declared.question.Question.TheVariants as questions;
 
-use command_ending::{Fault, put_number};
+use command_edge::{Fault, put_number};
 use command_words::{FilmSteps, Numbers};
 use film_core::{Film, Started};
 use io_edge::{Files, Moved, SureFiles, SureSwap, SwapDev};

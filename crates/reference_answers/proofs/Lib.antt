@@ -1,3 +1,5 @@
+pub mod TwoNumbers
+pub mod ReadLines
 pub mod Members
 pub mod NumberLaws
 pub mod Counting
@@ -5,3 +7,4 @@ pub mod Finding
 pub mod Curve
 pub mod TextLaws
 pub mod SweepLaws
+pub mod Compared

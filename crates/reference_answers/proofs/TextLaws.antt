@@ -6,7 +6,7 @@ use Rattle.std.proofs.lemmas.List.{drop_more, drop_all}
 use Rattle.vm_facts.specs.declared.page.Page.{Page}
 use Rattle.flat_model.specs.Touched.{distinct}
 use Rattle.run_text.specs.Text.{part}
-use Rattle.command_ending.specs.Ending.{numbered_line}
+use Rattle.command_edge.specs.Ending.{numbered_line}
 use Rattle.page_opt.specs.declared.Victim.{Victim}
 use Rattle.stack_dist.specs.Lru.{lru_faults}
 use Rattle.policy_faults.specs.Policies.{fifo_faults, clock_faults, hands_faults}

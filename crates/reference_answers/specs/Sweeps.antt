@@ -1,6 +1,6 @@
 -- What the code knows of references for every number of frames, and what it writes for one of them.
 use Rattle.std.specs.Prelude.{◌≡◌, ℕ, ◌-◌, ◌<◌, ◌≤◌, List, ◌++◌, length, slice_index_or, unwrap_or}
-use Rattle.reference_text.specs.Grammar.{most_references}
+use Rattle.reference_answers.specs.Grammar.{most_references}
 use Rattle.page_opt.specs.Plans.{plan_faults}
 use Rattle.page_opt.specs.Furthest.{furthest_victims}
 use Rattle.page_opt.specs.Cache.{AreNextUses}

@@ -4,11 +4,11 @@ use Rattle.std.specs.List.{flat_map, range_with_len}
 use Rattle.vm_facts.specs.declared.page.Page.{Page}
 use Rattle.flat_model.specs.Touched.{distinct}
 use Rattle.run_text.specs.Text.{page_text, part}
-use Rattle.command_ending.specs.Ending.{numbered_line}
+use Rattle.command_edge.specs.Ending.{numbered_line}
 use Rattle.page_opt.specs.declared.Victim.{Victim}
 use Rattle.stack_dist.specs.Lru.{lru_faults}
 use Rattle.policy_faults.specs.Policies.{fifo_faults, clock_faults, hands_faults}
-use Rattle.reference_text.specs.Grammar.{page_word}
+use Rattle.reference_answers.specs.Grammar.{page_word}
 use Rattle.reference_answers.specs.Numbers.{numbers_of, page_numbered}
 
 -- how many references there are, and how many pages among them

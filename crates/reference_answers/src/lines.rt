@@ -3,12 +3,12 @@ ghost use Rattle.std.specs.Prelude.{◌≡◌, ◌<◌, ◌^◌, ◌++◌, lengt
 ghost use Rattle.std.specs.List.{flat_map};
 ghost use Rattle.std.specs.Option.{option_copied};
 ghost use Rattle.run_text.specs.Text.{page_text, part};
-ghost use Rattle.command_ending.specs.Ending.{numbered_line};
+ghost use Rattle.command_edge.specs.Ending.{numbered_line};
 ghost use Rattle.reference_answers.specs.Numbers.{page_numbered};
-ghost use Rattle.reference_text.specs.Grammar.{page_word};
+ghost use Rattle.reference_answers.specs.Grammar.{page_word};
 ghost use Rattle.reference_answers.specs.Texts.{victim_line, size_lines, reference_line, policies_line};
 
-use command_ending::put_number;
+use command_edge::put_number;
 use page_opt::Victim;
 use std::alloc::AllocError;
 use vm_facts::Page;

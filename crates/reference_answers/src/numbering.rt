@@ -1,7 +1,7 @@
 //! Pages become numbers, in the order of their first references. The crates below know numbers alone.
 ghost use Rattle.std.specs.Prelude.{◌≡◌, ◌<◌, ◌≤◌, length, map, vec_len, IfOk, OnOk};
 ghost use Rattle.flat_model.specs.Touched.{distinct};
-ghost use Rattle.reference_text.specs.Grammar.{most_references};
+ghost use Rattle.reference_answers.specs.Grammar.{most_references};
 ghost use Rattle.reference_answers.specs.Numbers.{number_from, numbers_of};
 ghost use Rattle.reference_answers.specs.Keys.{key_of, with_page};
 

@@ -15,7 +15,7 @@ use Rattle.flat_laws.proofs.Few.{touched_few}
 use Rattle.flat_laws.proofs.Sized.{run_sized, sized_whole}
 use Rattle.replay_check.specs.Verdicts.{touched_by_unit, references_from, references_of}
 use Rattle.replay_check.proofs.Running.{units_one}
-use Rattle.transcript_laws.proofs.Texts.{start_runs}
+use Rattle.replay_command.proofs.Texts.{start_runs}
 
 -- images that fit their pages are whole
 pub images_whole : (images : List NamedImage) → ImagesFit images → ImagesWhole images

@@ -7,10 +7,10 @@ use Rattle.std.proofs.lemmas.List.Elements.{All-head, All-tail}
 use Rattle.io_edge.specs.FileHolding.{NamedFile, place_of, bytes_at}
 use Rattle.aout_image.specs.Image.{Loaded, judged_image}
 use Rattle.flat_state.specs.Flat.{NamedImage}
-use Rattle.run_files.specs.ImageWords.{name_in, distinct, image_names}
-use Rattle.run_files.proofs.ImageNames.{unlike}
+use Rattle.command_edge.specs.ImageWords.{name_in, distinct, image_names}
+use Rattle.command_edge.proofs.ImageNames.{unlike}
 use Rattle.replay_check.specs.Images.{FlatFile, IsImageFile, named_as, images_of}
-use Rattle.command_ending.specs.Named.{Why, before}
+use Rattle.command_edge.specs.Named.{Why, before}
 use Rattle.run_model.proofs.Acting.{bytes_self}
 use Rattle.run_opening.specs.Images.{named_image, image_found_at, image_found, images_found}
 use Rattle.reference_commands.specs.InMemory.{file_of, DiffersFrom, AllDiffer}

@@ -19,12 +19,12 @@ use Rattle.run_command.proofs.Filing.{images_fit}
 use Rattle.run_command.proofs.Finishing.{units_below}
 use Rattle.run_command.specs.Lawful.{RunFinished}
 use Rattle.run_command.specs.RunEnds.{IsAskedOf}
-use Rattle.run_files.specs.ImageWords.{IsShortName}
+use Rattle.command_edge.specs.ImageWords.{IsShortName}
 use Rattle.reference_answers.specs.Grammar.{most_references}
 use Rattle.replay_check.specs.Images.{FlatFile, IsImageFile, images_of}
 use Rattle.replay_check.specs.Verdicts.{references_of, first_bad}
-use Rattle.transcript_laws.proofs.Fronts.{none_is_bad}
-use Rattle.command_ending.specs.Named.{Why}
+use Rattle.replay_command.proofs.Fronts.{none_is_bad}
+use Rattle.command_edge.specs.Named.{Why}
 use Rattle.command_words.specs.declared.command.Numbers.{Numbers}
 use Rattle.command_words.specs.declared.limits.TheConstants.{MOST_LIMIT, MOST_SHORT_LIMIT}
 use Rattle.run_opening.specs.declared.images.OpenedImage.{OpenedImage}

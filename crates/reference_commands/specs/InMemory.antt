@@ -16,19 +16,19 @@ use Rattle.run_command.specs.Unfinished.TheVariants.{Stopped}
 use Rattle.run_command.specs.Lawful.{RunFinished, RunHalted}
 use Rattle.run_command.specs.Full.{RunFull, RunOver}
 use Rattle.run_command.specs.RunEnds.{RunEnds}
-use Rattle.run_files.specs.ImageWords.{IsShortName}
+use Rattle.command_edge.specs.ImageWords.{IsShortName}
 use Rattle.run_text.specs.Schedule.{IsInRanges}
 use Rattle.replay_check.specs.Images.{FlatFile, AreNumbers, images_of}
 use Rattle.replay_check.specs.Verdicts.{references_of}
-use Rattle.command_ending.specs.declared.fault.Fault.{Fault}
-use Rattle.command_ending.specs.declared.fault.Fault.TheVariants.{NoMemory, JournalFull, NoSpace}
+use Rattle.command_edge.specs.declared.fault.Fault.{Fault}
+use Rattle.command_edge.specs.declared.fault.Fault.TheVariants.{NoMemory, JournalFull, NoSpace}
 use Rattle.command_words.specs.declared.command.Numbers.{Numbers}
 use Rattle.command_words.specs.Command.{AreAllowed}
 use Rattle.run_opening.specs.declared.images.OpenedImage.{OpenedImage}
 use Rattle.run_opening.specs.Images.{images_in, file_numbers, IsIn}
 use Rattle.run_opening.specs.Schedules.{schedule_lines}
 use Rattle.run_command.specs.Machines.{journal_entries}
-use Rattle.command_ending.specs.Ending.{Ending}
+use Rattle.command_edge.specs.Ending.{Ending}
 use Rattle.reference_commands.specs.declared.question.Question.{Question}
 use Rattle.reference_commands.specs.declared.question.Question.TheVariants.{Optimum, Curve, Owners, Film, Stats, WasCut, References}
 use Rattle.reference_commands.specs.Answering.{blank_stores, IsAnswer}

@@ -2,10 +2,10 @@
 use Rattle.std.specs.Prelude.{◌≡◌, ℕ, List, Result, Err}
 use Rattle.io_edge.specs.FileHolding.{NamedFile}
 use Rattle.vm_facts.specs.declared.event.Event.{Event}
-use Rattle.run_files.specs.declared.answers.Unread.{Unread}
-use Rattle.run_files.specs.ImageWords.{image_names}
+use Rattle.command_edge.specs.declared.answers.Unread.{Unread}
+use Rattle.command_edge.specs.ImageWords.{image_names}
 use Rattle.replay_check.specs.Images.{FlatFile}
-use Rattle.command_ending.specs.Named.{Why}
+use Rattle.command_edge.specs.Named.{Why}
 use Rattle.run_opening.specs.Schedules.{schedule_found, HasEvents}
 use Rattle.replay_command.specs.Reading.{images_told}
 

@@ -1,14 +1,14 @@
 //! Answers of `opt`, `curve` and `refs` on the references of a run in memory.
 ghost use Rattle.std.specs.Prelude.{◌≡◌, ◌≤◌, map, length, All};
-ghost use Rattle.run_files.specs.ImageWords.{IsShortName};
+ghost use Rattle.command_edge.specs.ImageWords.{IsShortName};
 ghost use Rattle.replay_check.specs.Images.{AreImageFiles};
 ghost use Rattle.command_words.specs.declared.limits.TheConstants.{MOST_FRAMES, MOST_SHORT_LIMIT};
-ghost use Rattle.command_ending.specs.Ending.{ending_of};
+ghost use Rattle.command_edge.specs.Ending.{ending_of};
 ghost use Rattle.reference_commands.specs.declared.question.Question.TheVariants as questions;
 ghost use Rattle.reference_commands.specs.InMemory.{inputs_with, IsRunnable, EndsAnswer, AllDiffer};
 
 use crate::running::run_references;
-use command_ending::Fault;
+use command_edge::Fault;
 use command_words::Numbers;
 use reference_answers::{curve_text, optimum_text, references_text};
 use replay_check::Flat;

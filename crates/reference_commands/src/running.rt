@@ -3,13 +3,13 @@ ghost use Rattle.std.specs.Prelude.{◌≡◌, ◌≤◌, ℕ, List, Option, Som
 ghost use Rattle.vm_facts.specs.SwapImages.{SwapImage};
 ghost use Rattle.flat_state.specs.Flat.{Inputs};
 ghost use Rattle.machine_state.specs.Going.{IsRunning};
-ghost use Rattle.run_files.specs.ImageWords.{IsShortName};
+ghost use Rattle.command_edge.specs.ImageWords.{IsShortName};
 ghost use Rattle.replay_check.specs.Images.{AreImageFiles, AreNumbers, images_of};
 ghost use Rattle.run_command.specs.Full.{RunFull, RunOver};
 ghost use Rattle.run_command.specs.RunEnds.{RunEnds};
 ghost use Rattle.command_words.specs.declared.limits.TheConstants.{MOST_LIMIT};
 ghost use Rattle.replay_command.specs.Reading.{items_of};
-ghost use Rattle.command_ending.specs.Ending.{ending_of};
+ghost use Rattle.command_edge.specs.Ending.{ending_of};
 ghost use Rattle.io_edge.specs.Octets.{AreOctetFiles};
 ghost use Rattle.owner_lines.specs.Owners.{owners_lines};
 ghost use Rattle.run_command.specs.Machines.{journal_entries};
@@ -19,7 +19,7 @@ ghost use Rattle.reference_commands.specs.declared.question.Question.TheVariants
 
 use crate::copying::files_of;
 use crate::growing::GrowingText;
-use command_ending::Fault;
+use command_edge::Fault;
 use command_words::{JOURNAL_ENTRIES, Numbers};
 use io_edge::{Files, Moved, SureFiles, SureSwap};
 use machine_state::Machine;

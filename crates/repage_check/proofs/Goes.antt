@@ -17,7 +17,7 @@ use Rattle.fault_fill.specs.Made.{ground, MakesUnit}
 use Rattle.paged_model.specs.declared.reason.Reason.{Reason}
 use Rattle.move_judge.specs.Judged.{Judged, JudgedThrough}
 use Rattle.move_judge.specs.Over.{JudgedOver}
-use Rattle.leave_judge.specs.Leaving.{WentOut, CameIn, JudgedOut, JudgedIn}
+use Rattle.move_judge.specs.Leaving.{WentOut, CameIn, JudgedOut, JudgedIn}
 use Rattle.step_judge.specs.Told.{GoesOnWith}
 
 on_beside : (old new : Standing) → CanGoOn new → IsSameBeside old new → GoesOnWith old new

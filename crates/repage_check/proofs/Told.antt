@@ -27,7 +27,7 @@ use Rattle.paged_model.specs.Leaving.{out_reason, in_reason}
 use Rattle.step_judge.specs.Begun.{Begun}
 use Rattle.move_judge.specs.Judged.{Judged, JudgedThrough}
 use Rattle.move_judge.specs.Over.{JudgedOver}
-use Rattle.leave_judge.specs.Leaving.{JudgedOut, JudgedIn}
+use Rattle.move_judge.specs.Leaving.{JudgedOut, JudgedIn}
 use Rattle.step_judge.specs.At.{JudgedAt}
 use Rattle.step_judge.specs.Told.{StepTold, GoesOnWith}
 use Rattle.repage_check.specs.declared.past.Past.{Past}

@@ -10,8 +10,7 @@ use crate::past::Past;
 use machine_state::Machine;
 use run_model::Mark;
 use std::alloc::Global;
-use step_judge::proc_run::ready_regs;
-use step_judge::touched_pages::{Touched, touched_and_wanted};
+use step_judge::proc_run::{Touched, ready_regs, touched_and_wanted};
 use vm_facts::{NoMemory, Page};
 
 // One page alone.

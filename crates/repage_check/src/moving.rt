@@ -12,9 +12,8 @@ ghost use Rattle.step_judge.specs.Told.{GoesOnWith};
 ghost use Rattle.repage_check.specs.Units.{IsFill, fill_reason};
 
 use io_edge::{Files, SwapDev};
-use leave_judge::judge_put;
 use machine_state::Machine;
-use move_judge::{judge_copy, judge_done, judge_get, judge_reclaim, judge_zero};
+use move_judge::{judge_copy, judge_done, judge_get, judge_put, judge_reclaim, judge_zero};
 use paged_model::Reason;
 use vm_facts::{Entry, NoMemory, Stop};
 

@@ -2,12 +2,12 @@
 use Rattle.std.proofs.Common.{◌≡◌, ℕ, List, [], Option, Some, None, Result, Ok, Err, sym, ap, ◌∙◌, subst}
 use Rattle.flat_state.specs.Flat.{Inputs}
 use Rattle.paged_model.specs.declared.line.Line.{Line}
-use Rattle.run_files.specs.ImageWords.{image_names, first_images}
+use Rattle.command_edge.specs.ImageWords.{image_names, first_images}
 use Rattle.command_words.specs.declared.command.Numbers.{Numbers}
-use Rattle.command_ending.specs.declared.fault.Fault.{Fault}
-use Rattle.command_ending.specs.declared.fault.Fault.TheVariants as faults
-use Rattle.command_ending.specs.Ending.{Ending}
-use Rattle.command_ending.specs.Command.{Faults, NoFaults, EndCounted}
+use Rattle.command_edge.specs.declared.fault.Fault.{Fault}
+use Rattle.command_edge.specs.declared.fault.Fault.TheVariants as faults
+use Rattle.command_edge.specs.Ending.{Ending}
+use Rattle.command_edge.specs.Command.{Faults, NoFaults, EndCounted}
 use Rattle.replay_command.specs.Reading.{Read}
 use Rattle.grade_command.specs.InMemory.{inputs_with}
 use Rattle.repage_check.specs.Verdicts.{HasMisstep}

@@ -14,16 +14,16 @@ use Rattle.run_model.specs.State.{start}
 use Rattle.repage_check.specs.VmCoreStarting.{AreAmong}
 use Rattle.run_opening.specs.declared.images.OpenedImage.{OpenedImage}
 use Rattle.owner_lines.specs.Owners.{carrier, owners_lines}
-use Rattle.owner_laws.specs.Account.{text_at}
-use Rattle.owner_laws.proofs.Registers.{machine_told}
+use Rattle.owner_lines.specs.Account.{text_at}
+use Rattle.owner_lines.proofs.Registers.{machine_told}
 use Rattle.paged_model.specs.declared.line.Line.{Line}
 use Rattle.paged_model.specs.declared.reason.Misstep.{Misstep}
 use Rattle.paged_model.specs.Traces.{trace_state, first_trace_misstep, IsPagedTrace}
 use Rattle.repage_check.specs.Past.{PastAt}
 use Rattle.repage_check.specs.Units.{StandsPast}
 use Rattle.repage_check.specs.At.{JudgedAt}
-use Rattle.command_ending.specs.declared.fault.Fault.{Fault}
-use Rattle.command_ending.specs.declared.fault.Fault.TheVariants as faults
+use Rattle.command_edge.specs.declared.fault.Fault.{Fault}
+use Rattle.command_edge.specs.declared.fault.Fault.TheVariants as faults
 use Rattle.vm_core.proofs.Ending.{are_among}
 use Rattle.grade_command.specs.Naming.{shown_as}
 use Rattle.repage_check.specs.declared.checking.Verdict.TheVariants.{Paged}

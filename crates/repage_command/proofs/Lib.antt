@@ -1,4 +1,6 @@
 pub use Rattle.grade_command.proofs.Found
+pub mod PartTexts
+pub mod TraceLines
 mod Readings
 mod Missteps
 mod Judged

@@ -1,21 +1,21 @@
 -- What reading a trace, and its images, makes of what the files give.
 use Rattle.std.proofs.Common.{◌≡◌, inl, inr, ℕ, suc, ◌+◌, ◌<◌, ◌≤◌, ◌^◌, List, [], ◌∷◌, length, Option, Some, None, Result, Ok, Err, Bor, refl, ap, subst, arith}
 use Rattle.io_edge.specs.FileHolding.{NamedFile}
-use Rattle.run_files.specs.declared.answers.Unread.{Unread}
-use Rattle.run_files.specs.declared.answers.Unread.TheVariants as unreads
-use Rattle.run_files.specs.Answering.{Answers, CountsFault, IsOfAnyFile}
-use Rattle.run_files.specs.ImageWords.{image_names, first_images}
+use Rattle.command_edge.specs.declared.answers.Unread.{Unread}
+use Rattle.command_edge.specs.declared.answers.Unread.TheVariants as unreads
+use Rattle.command_edge.specs.Answering.{Answers, CountsFault, IsOfAnyFile}
+use Rattle.command_edge.specs.ImageWords.{image_names, first_images}
 use Rattle.run_text.specs.Lines.{lines_in, AreLines}
-use Rattle.trace_text.specs.Grammar.{IsTraceLine}
+use Rattle.repage_command.specs.Grammar.{IsTraceLine}
 use Rattle.replay_check.specs.Images.{FlatFile}
 use Rattle.paged_model.specs.declared.line.Line.{Line}
-use Rattle.command_ending.specs.declared.fault.Fault.{Fault}
-use Rattle.command_ending.specs.declared.fault.Fault.TheVariants as faults
-use Rattle.command_ending.specs.Ending.{fault_of}
-use Rattle.command_ending.specs.Named.{Why, AnswersNamed}
-use Rattle.command_ending.specs.Command.{Faults, NoFaults, EndCounted, Made}
-use Rattle.command_ending.proofs.Counting.{none_then, one_then}
-use Rattle.command_ending.proofs.Makings.{made_where, made_nothing, made_by}
+use Rattle.command_edge.specs.declared.fault.Fault.{Fault}
+use Rattle.command_edge.specs.declared.fault.Fault.TheVariants as faults
+use Rattle.command_edge.specs.Ending.{fault_of}
+use Rattle.command_edge.specs.Named.{Why, AnswersNamed}
+use Rattle.command_edge.specs.Command.{Faults, NoFaults, EndCounted, Made}
+use Rattle.command_edge.proofs.Counting.{none_then, one_then}
+use Rattle.command_edge.proofs.Makings.{made_where, made_nothing, made_by}
 use Rattle.replay_command.specs.Reading.{Read, FaultsBy, images_told, read_of_transcript}
 use Rattle.replay_command.proofs.LastLines.{few_lines}
 use Rattle.replay_command.proofs.Replays.{whole}

@@ -3,17 +3,17 @@ use Rattle.std.specs.Prelude.{◌≡◌, ℕ, List, [], length, take, Option, Re
 use Rattle.io_edge.specs.FileHolding.{NamedFile}
 use Rattle.flat_state.specs.Flat.{Inputs}
 use Rattle.flat_model.specs.Asked.{start_held}
-use Rattle.run_files.specs.ImageWords.{image_names, first_images}
+use Rattle.command_edge.specs.ImageWords.{image_names, first_images}
 use Rattle.replay_check.specs.Images.{FlatFile}
 use Rattle.paged_model.specs.declared.line.Line.{Line}
 use Rattle.paged_model.specs.Traces.{IsPagedTrace}
 use Rattle.paged_model.specs.declared.reason.Misstep.{Misstep}
 use Rattle.repage_check.specs.Verdicts.{HasMisstep}
 use Rattle.command_words.specs.declared.command.Numbers.{Numbers}
-use Rattle.command_ending.specs.declared.fault.Fault.{Fault}
-use Rattle.command_ending.specs.declared.fault.Fault.TheVariants.{NoSpace, NotPaged}
-use Rattle.command_ending.specs.Ending.{Ending}
-use Rattle.command_ending.specs.Command.{Faults, NoFaults, Completes}
+use Rattle.command_edge.specs.declared.fault.Fault.{Fault}
+use Rattle.command_edge.specs.declared.fault.Fault.TheVariants.{NoSpace, NotPaged}
+use Rattle.command_edge.specs.Ending.{Ending}
+use Rattle.command_edge.specs.Command.{Faults, NoFaults, Completes}
 use Rattle.replay_command.specs.Reading.{Read, read_of_transcript}
 use Rattle.grade_command.specs.InMemory.{inputs_with}
 use Rattle.repage_command.specs.declared.judging.Repaged.{Repaged}

@@ -5,8 +5,8 @@ use Rattle.flat_state.specs.Flat.{Inputs}
 use Rattle.paged_model.specs.declared.line.Line.{Line}
 use Rattle.paged_model.specs.Traces.{IsPagedTrace}
 use Rattle.command_words.specs.declared.command.Numbers.{Numbers}
-use Rattle.command_ending.specs.declared.fault.Fault.{Fault}
-use Rattle.command_ending.specs.Command.{Faults, Made}
+use Rattle.command_edge.specs.declared.fault.Fault.{Fault}
+use Rattle.command_edge.specs.Command.{Faults, Made}
 use Rattle.replay_command.specs.Reading.{Read, read_of_transcript}
 use Rattle.repage_command.specs.Judging.{TellsMisstep}
 use Rattle.repage_command.specs.Command.{IsSoOfLines, EndsReading}

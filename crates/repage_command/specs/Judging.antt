@@ -7,18 +7,17 @@ use Rattle.flat_model.specs.Asked.{start_held}
 use Rattle.page_model.specs.Placement.{Placement}
 use Rattle.run_model.specs.State.{State, start}
 use Rattle.owner_lines.specs.Owners.{carrier}
-use Rattle.owner_laws.specs.Account.{text_at}
+use Rattle.owner_lines.specs.Account.{text_at}
 use Rattle.paged_model.specs.declared.reason.Reason.{Reason}
 use Rattle.paged_model.specs.declared.reason.Reason.TheVariants.{InState}
 use Rattle.paged_model.specs.declared.reason.Misstep.{Misstep}
 use Rattle.paged_model.specs.declared.line.Line.{Line}
 use Rattle.paged_model.specs.Traces.{trace_state, first_trace_misstep, IsPagedTrace}
-use Rattle.repage_check.specs.Verdicts.{HasMisstep}
-use Rattle.command_ending.specs.declared.fault.Fault.{Fault}
-use Rattle.command_ending.specs.declared.fault.Fault.TheVariants.{NoMemory, NoSpace, NotPaged}
-use Rattle.command_ending.specs.Ending.{Ending}
+use Rattle.repage_check.specs.Verdicts.{HasMisstep, IsJudged}
+use Rattle.command_edge.specs.declared.fault.Fault.{Fault}
+use Rattle.command_edge.specs.declared.fault.Fault.TheVariants.{NoMemory, NoSpace, NotPaged}
+use Rattle.command_edge.specs.Ending.{Ending}
 use Rattle.repage_check.specs.declared.checking.Verdict.TheVariants.{Paged}
-use Rattle.repage_check.specs.Verdicts.{IsJudged}
 use Rattle.repage_command.specs.declared.judging.Judged.{Judged}
 use Rattle.repage_command.specs.declared.judging.Repaged.{Repaged}
 use Rattle.repage_command.specs.Telling.{paged_line, misstep_line}

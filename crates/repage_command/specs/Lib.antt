@@ -16,7 +16,9 @@ pub use Rattle.grade_command.specs.Answering
 pub use Rattle.grade_command.specs.Ends
 pub use Rattle.grade_command.specs.Reading as GradeCommandReading
 pub use Rattle.grade_command.specs.Command as GradeCommandCommand
-pub use Rattle.grade_command.specs.RunHeadline
+pub use Rattle.vm_core.specs.Headline as RunHeadline
+pub mod Grammar
+pub mod PartFrom
 pub mod Telling
 pub mod Judging
 pub mod Reading

@@ -3,17 +3,17 @@ use Rattle.std.specs.Prelude.{◌≡◌, ◌⊎◌, ℕ, ◌+◌, ◌<◌, ◌�
 use Rattle.std.specs.Borrow.{Bor}
 use Rattle.flat_state.specs.Flat.{Inputs}
 use Rattle.run_text.specs.Lines.{lines_in, AreLines, IsFirstBad}
-use Rattle.trace_text.specs.Grammar.{IsTraceLine}
+use Rattle.repage_command.specs.Grammar.{IsTraceLine}
 use Rattle.paged_model.specs.declared.line.Line.{Line}
-use Rattle.run_files.specs.declared.answers.Unread.{Unread}
-use Rattle.run_files.specs.declared.answers.Unread.TheVariants as unreads
-use Rattle.run_files.specs.ImageWords.{IsShortName, image_names, first_images}
+use Rattle.command_edge.specs.declared.answers.Unread.{Unread}
+use Rattle.command_edge.specs.declared.answers.Unread.TheVariants as unreads
+use Rattle.command_edge.specs.ImageWords.{IsShortName, image_names, first_images}
 use Rattle.replay_check.specs.Images.{FlatFile, AreImageFiles}
 use Rattle.command_words.specs.declared.command.Numbers.{Numbers}
-use Rattle.command_ending.specs.declared.fault.Fault.{Fault}
-use Rattle.command_ending.specs.declared.fault.Fault.TheVariants.{Absent, NotImage, FileFault, NoMemory, BadTranscript, TooLong}
-use Rattle.command_ending.specs.Named.{Why}
-use Rattle.command_ending.specs.Command.{Faults, NoFaults, OpenFailed, FailedBehind}
+use Rattle.command_edge.specs.declared.fault.Fault.{Fault}
+use Rattle.command_edge.specs.declared.fault.Fault.TheVariants.{Absent, NotImage, FileFault, NoMemory, BadTranscript, TooLong}
+use Rattle.command_edge.specs.Named.{Why}
+use Rattle.command_edge.specs.Command.{Faults, NoFaults, OpenFailed, FailedBehind}
 use Rattle.replay_command.specs.LastLine.{without_fault_line}
 use Rattle.replay_command.specs.Reading.{Read}
 use Rattle.grade_command.specs.InMemory.{inputs_with, IsRunnable, AllDiffer}

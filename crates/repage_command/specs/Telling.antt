@@ -5,7 +5,7 @@ use Rattle.vm_facts.specs.declared.page.Page.TheVariants.{Data, Stack, Text}
 use Rattle.vm_facts.specs.declared.page.PageState.{PageState}
 use Rattle.vm_facts.specs.declared.page.PageState.TheVariants.{Unfilled, Valid, Invalid, Coming, Going, OnSwap}
 use Rattle.run_text.specs.Text.{line_of}
-use Rattle.trace_text.specs.Grammar.{part_line}
+use Rattle.repage_command.specs.Grammar.{part_line}
 use Rattle.paged_model.specs.declared.line.Line.{Line}
 use Rattle.paged_model.specs.declared.line.Line.TheVariants as lines
 use Rattle.paged_model.specs.declared.reason.Reason.{Reason}

@@ -3,8 +3,8 @@ ghost use Rattle.std.specs.Prelude.{◌≡◌, length, map, IfOk};
 ghost use Rattle.io_edge.specs.Calls.{KeepsFiles};
 ghost use Rattle.command_words.specs.Command.{IsFittingRun};
 ghost use Rattle.command_words.specs.declared.limits.TheConstants.{MOST_LIMIT};
-ghost use Rattle.command_ending.specs.Ending.{ending_of};
-ghost use Rattle.command_ending.specs.Command.{EndCounted, Made};
+ghost use Rattle.command_edge.specs.Ending.{ending_of};
+ghost use Rattle.command_edge.specs.Command.{EndCounted, Made};
 ghost use Rattle.replay_command.specs.Reading.{read_of_transcript};
 ghost use Rattle.repage_command.specs.Judging.{IsRepageEnding};
 ghost use Rattle.repage_command.specs.Telling.{paged_line};
@@ -12,7 +12,7 @@ ghost use Rattle.repage_command.specs.Command.{EndsReading, EndsRepage, Repages,
 
 use crate::judging::{Repaged, owners_of_case, repage_case};
 use crate::reading::read_case;
-use command_ending::{Fault, put_number, write_ending};
+use command_edge::{Fault, put_number, write_ending};
 use command_words::Numbers;
 use io_edge::{Files, Sink};
 use std::alloc::{AllocError, Global};

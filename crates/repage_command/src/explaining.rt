@@ -8,7 +8,7 @@ ghost use Rattle.repage_command.specs.Explaining.{ExplainsRepage, LacksWhy};
 
 use crate::command::repage_from;
 use crate::judging::Repaged;
-use command_ending::Fault;
+use command_edge::Fault;
 use command_words::Numbers;
 use io_edge::Files;
 use std::alloc::Global;

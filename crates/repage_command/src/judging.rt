@@ -19,7 +19,7 @@ ghost use Rattle.paged_model.specs.Traces.{first_trace_misstep};
 ghost use Rattle.command_words.specs.declared.limits.TheConstants.{MOST_FRAMES};
 ghost use Rattle.grade_command.specs.Naming.{shown_as};
 ghost use Rattle.grade_command.specs.Machines.{machine_up_to};
-ghost use Rattle.command_ending.specs.Ending.{ending_of};
+ghost use Rattle.command_edge.specs.Ending.{ending_of};
 ghost use Rattle.repage_check.specs.Moves.{HaveFewMoves};
 ghost use Rattle.repage_check.specs.Verdicts.{IsAsked, HasMisstep};
 ghost use Rattle.grade_command.specs.InMemory.{file_of, AreOpened};
@@ -29,7 +29,7 @@ ghost use Rattle.repage_command.specs.Judging.{TellsJudged, EndsJudging, frame_a
 
 use crate::reading::Case;
 use crate::telling::misstep_line;
-use command_ending::Fault;
+use command_edge::Fault;
 use command_words::Numbers;
 use grade_command::question_command::reference_commands::run_command::name_images;
 use grade_command::question_command::reference_commands::{

@@ -2,24 +2,23 @@
 //! absent image.
 ghost use Rattle.std.specs.Prelude.{◌≡◌, ◌+◌, ◌≤◌, ◌<◌, ◌^◌, length, map, IfOk};
 ghost use Rattle.io_edge.specs.Calls.{KeepsFiles};
-ghost use Rattle.run_files.specs.Told.{whole_told};
+ghost use Rattle.command_edge.specs.Told.{whole_told};
 ghost use Rattle.command_words.specs.Command.{IsFittingRun};
 ghost use Rattle.command_words.specs.declared.limits.TheConstants.{MOST_LIMIT};
-ghost use Rattle.command_ending.specs.Command.{EndCounted, Made};
+ghost use Rattle.command_edge.specs.Command.{EndCounted, Made};
 ghost use Rattle.replay_command.specs.Reading.{items_of, read_of_transcript};
 ghost use Rattle.repage_check.specs.Moves.{HaveFewMoves};
 ghost use Rattle.repage_command.specs.Reading.{EndsBytes, EndsFew, EndsTrace, EndsCase, IsReady};
 
-use command_ending::Fault;
+use crate::{Trace, read_trace};
+use command_edge::{Fault, read_whole};
 use command_words::Numbers;
 use io_edge::Files;
 use paged_model::Line;
 use repage_check::has_few_moves;
 use replay_check::Flat;
 use replay_command::{Naming, TRANSCRIPT_BYTES, load_images, name_images, without_fault_line};
-use run_files::read_whole;
 use std::alloc::Global;
-use trace_text::{Trace, read_trace};
 
 /// A trace that was read, and the images over which it is judged.
 #[derive(Drop)]

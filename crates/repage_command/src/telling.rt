@@ -1,11 +1,11 @@
 //! The words for each reason why a line of a trace can't come.
 ghost use Rattle.std.specs.Prelude.{◌≡◌, [], ◌∷◌, ◌++◌, codes, decimal, IfOk, OnOk, option_map};
 ghost use Rattle.run_text.specs.Text.{line_of, page_text, rest_of_line};
-ghost use Rattle.trace_text.specs.Grammar.{part_line};
+ghost use Rattle.repage_command.specs.Grammar.{part_line};
 ghost use Rattle.replay_command.specs.Explaining.{around_number};
 ghost use Rattle.repage_command.specs.Telling.{page_words, around_page, state_words, reason_words, line_text, line_words, misstep_line};
 
-use command_ending::put_number;
+use command_edge::put_number;
 use grade_command::question_command::entry_line;
 use kernel_model::HandPart;
 use paged_model::{Line, Reason};

@@ -2,18 +2,18 @@
 use Rattle.std.proofs.Common.{◌≡◌, inl, inr, ℕ, List, [], Option, Some, None, Result, Ok, Err, refl, subst}
 use Rattle.io_edge.specs.FileHolding.{NamedFile}
 use Rattle.vm_facts.specs.declared.entry.Entry.{Entry}
-use Rattle.run_files.specs.declared.answers.Unread.{Unread}
-use Rattle.run_files.specs.declared.answers.Unread.TheVariants as unreads
-use Rattle.run_files.specs.Told.{whole_told}
-use Rattle.run_files.specs.ImageWords.{image_names, first_images}
+use Rattle.command_edge.specs.declared.answers.Unread.{Unread}
+use Rattle.command_edge.specs.declared.answers.Unread.TheVariants as unreads
+use Rattle.command_edge.specs.Told.{whole_told}
+use Rattle.command_edge.specs.ImageWords.{image_names, first_images}
 use Rattle.replay_check.specs.Images.{FlatFile}
-use Rattle.command_ending.specs.declared.fault.Fault.{Fault}
-use Rattle.command_ending.specs.declared.fault.Fault.TheVariants as faults
-use Rattle.command_ending.specs.Ending.{Ending}
-use Rattle.command_ending.specs.Named.{Why, AnswersNamed}
-use Rattle.command_ending.specs.Command.{Faults, NoFaults, FaultCounted, EndCounted, Made}
-use Rattle.command_ending.proofs.Counting.{none_then, one_then}
-use Rattle.command_ending.proofs.Makings.{made_where, made_nothing}
+use Rattle.command_edge.specs.declared.fault.Fault.{Fault}
+use Rattle.command_edge.specs.declared.fault.Fault.TheVariants as faults
+use Rattle.command_edge.specs.Ending.{Ending}
+use Rattle.command_edge.specs.Named.{Why, AnswersNamed}
+use Rattle.command_edge.specs.Command.{Faults, NoFaults, FaultCounted, EndCounted, Made}
+use Rattle.command_edge.proofs.Counting.{none_then, one_then}
+use Rattle.command_edge.proofs.Makings.{made_where, made_nothing}
 use Rattle.replay_command.specs.Reading.{Read, HasEntries, EndsTranscript, FaultsBy, images_told, read_of_transcript}
 use Rattle.replay_command.specs.Command.{EndsVerdict, EndsReplay}
 

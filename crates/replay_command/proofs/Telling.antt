@@ -4,16 +4,16 @@ use Rattle.io_edge.specs.FileHolding.{NamedFile}
 use Rattle.vm_facts.specs.declared.entry.Entry.{Entry}
 use Rattle.vm_facts.specs.declared.stop.NoMemory.{NoMemory}
 use Rattle.flat_state.specs.Flat.{Inputs}
-use Rattle.run_files.specs.ImageWords.{image_names}
+use Rattle.command_edge.specs.ImageWords.{image_names}
 use Rattle.replay_check.specs.Images.{FlatFile}
 use Rattle.replay_check.specs.Expecting.{IsExplained}
 use Rattle.replay_check.specs.declared.expecting.Misfit.{Misfit}
-use Rattle.run_files.specs.Told.{whole_told}
-use Rattle.run_files.specs.declared.answers.Unread.{Unread}
-use Rattle.command_ending.specs.declared.fault.Fault.{Fault}
-use Rattle.command_ending.specs.declared.fault.Fault.TheVariants as faults
-use Rattle.command_ending.specs.Command.{Faults}
-use Rattle.command_ending.specs.Named.{Why}
+use Rattle.command_edge.specs.Told.{whole_told}
+use Rattle.command_edge.specs.declared.answers.Unread.{Unread}
+use Rattle.command_edge.specs.declared.fault.Fault.{Fault}
+use Rattle.command_edge.specs.declared.fault.Fault.TheVariants as faults
+use Rattle.command_edge.specs.Command.{Faults}
+use Rattle.command_edge.specs.Named.{Why}
 use Rattle.replay_command.specs.Reading.{Read, EndsTranscript, FaultsBy, images_told, read_of_transcript}
 use Rattle.replay_command.specs.Explaining.{explanation, Explained, IsUnjudged}
 

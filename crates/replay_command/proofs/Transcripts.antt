@@ -2,16 +2,16 @@
 use Rattle.std.proofs.Common.{◌≡◌, ℕ, suc, ◌≤◌, List, [], ◌∷◌, length, Option, Some, Result, Ok, Err, Bor, refl, ap, arith}
 use Rattle.io_edge.specs.FileHolding.{NamedFile}
 use Rattle.vm_facts.specs.declared.entry.Entry.{Entry}
-use Rattle.run_files.specs.declared.answers.Unread.{Unread}
-use Rattle.run_files.specs.declared.answers.Unread.TheVariants as unreads
-use Rattle.run_files.specs.Answering.{Answers, CountsFault, IsOfAnyFile}
+use Rattle.command_edge.specs.declared.answers.Unread.{Unread}
+use Rattle.command_edge.specs.declared.answers.Unread.TheVariants as unreads
+use Rattle.command_edge.specs.Answering.{Answers, CountsFault, IsOfAnyFile}
 use Rattle.run_text.specs.Lines.{lines_in, AreLines}
 use Rattle.run_text.specs.Transcript.{IsEntryLine}
-use Rattle.command_ending.specs.declared.fault.Fault.{Fault}
-use Rattle.command_ending.specs.declared.fault.Fault.TheVariants as faults
-use Rattle.command_ending.specs.Ending.{fault_of}
-use Rattle.command_ending.specs.Command.{Faults, NoFaults, EndCounted, Made}
-use Rattle.command_ending.proofs.Makings.{made_by, made_nothing}
+use Rattle.command_edge.specs.declared.fault.Fault.{Fault}
+use Rattle.command_edge.specs.declared.fault.Fault.TheVariants as faults
+use Rattle.command_edge.specs.Ending.{fault_of}
+use Rattle.command_edge.specs.Command.{Faults, NoFaults, EndCounted, Made}
+use Rattle.command_edge.proofs.Makings.{made_by, made_nothing}
 use Rattle.replay_command.specs.Reading.{EndsLines, EndsTranscript}
 use Rattle.replay_command.proofs.LastLines.{few_lines}
 

@@ -3,14 +3,14 @@ use Rattle.std.specs.Prelude.{◌≡◌, ◌⊎◌, ℕ, List, ◌++◌, length,
 use Rattle.io_edge.specs.FileHolding.{NamedFile}
 use Rattle.vm_facts.specs.declared.entry.Entry.{Entry}
 use Rattle.flat_state.specs.Flat.{Inputs}
-use Rattle.run_files.specs.declared.answers.Unread.TheVariants as unreads
-use Rattle.run_files.specs.ImageWords.{image_names, first_images}
+use Rattle.command_edge.specs.declared.answers.Unread.TheVariants as unreads
+use Rattle.command_edge.specs.ImageWords.{image_names, first_images}
 use Rattle.replay_check.specs.Images.{FlatFile, images_of}
 use Rattle.replay_check.specs.Verdicts.{first_bad}
-use Rattle.command_ending.specs.declared.fault.Fault.TheVariants.{Absent, NotImage, FileFault, NoMemory, NotFlatRun, BadTranscript, TooLong}
-use Rattle.command_ending.specs.Ending.{Ending}
-use Rattle.command_ending.specs.Named.{Why}
-use Rattle.command_ending.specs.Command.{Faults, NoFaults, FailedBehind, Completes}
+use Rattle.command_edge.specs.declared.fault.Fault.TheVariants.{Absent, NotImage, FileFault, NoMemory, NotFlatRun, BadTranscript, TooLong}
+use Rattle.command_edge.specs.Ending.{Ending}
+use Rattle.command_edge.specs.Named.{Why}
+use Rattle.command_edge.specs.Command.{Faults, NoFaults, FailedBehind, Completes}
 use Rattle.replay_command.specs.Reading.{Read, HasEntries, HasBadLine, read_of_transcript}
 
 -- the line of a run

@@ -3,16 +3,16 @@ use Rattle.std.specs.Prelude.{◌≡◌, ℕ, List, ◌++◌, codes, decimal, Op
 use Rattle.io_edge.specs.FileHolding.{NamedFile}
 use Rattle.vm_facts.specs.declared.entry.Entry.{Entry}
 use Rattle.flat_state.specs.Flat.{Inputs}
-use Rattle.run_files.specs.ImageWords.{image_names, first_images}
+use Rattle.command_edge.specs.ImageWords.{image_names, first_images}
 use Rattle.run_text.specs.Text.{line_of}
 use Rattle.replay_check.specs.Images.{FlatFile, images_of}
 use Rattle.replay_check.specs.Expecting.{IsExplained}
 use Rattle.replay_check.specs.declared.expecting.Expected.{Expected}
 use Rattle.replay_check.specs.declared.expecting.Expected.TheVariants.{Comes, Unrefused, CannotStep, NoProcess, TooMany}
 use Rattle.replay_check.specs.declared.expecting.Misfit.{Misfit}
-use Rattle.command_ending.specs.declared.fault.Fault.{Fault}
-use Rattle.command_ending.specs.declared.fault.Fault.TheVariants.{NotFlatRun}
-use Rattle.command_ending.specs.Command.{Faults, Made}
+use Rattle.command_edge.specs.declared.fault.Fault.{Fault}
+use Rattle.command_edge.specs.declared.fault.Fault.TheVariants.{NotFlatRun}
+use Rattle.command_edge.specs.Command.{Faults, Made}
 use Rattle.replay_command.specs.Reading.{Read, HasEntries, read_of_transcript}
 use Rattle.replay_command.specs.Command.{EndsReplay}
 

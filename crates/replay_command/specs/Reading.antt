@@ -3,17 +3,17 @@ use Rattle.std.specs.Prelude.{◌≡◌, ℕ, List, [], ◌∷◌, Option, Some,
 use Rattle.io_edge.specs.FileHolding.{NamedFile}
 use Rattle.aout_image.specs.declared.Image.{Image}
 use Rattle.vm_facts.specs.declared.entry.Entry.{Entry}
-use Rattle.run_files.specs.declared.answers.Unread.{Unread}
-use Rattle.run_files.specs.declared.answers.Unread.TheVariants as unreads
-use Rattle.run_files.specs.Told.{whole_told, image_told}
-use Rattle.run_files.specs.ImageWords.{image_names}
+use Rattle.command_edge.specs.declared.answers.Unread.{Unread}
+use Rattle.command_edge.specs.declared.answers.Unread.TheVariants as unreads
+use Rattle.command_edge.specs.Told.{whole_told, image_told}
+use Rattle.command_edge.specs.ImageWords.{image_names}
 use Rattle.run_text.specs.Lines.{lines_in, AreLines, IsFirstBad}
 use Rattle.run_text.specs.Transcript.{IsEntryLine}
 use Rattle.replay_check.specs.Images.{FlatFile}
-use Rattle.command_ending.specs.declared.fault.Fault.{Fault}
-use Rattle.command_ending.specs.declared.fault.Fault.TheVariants.{Absent, NotImage, FileFault, NoMemory, BadTranscript, TooLong}
-use Rattle.command_ending.specs.Named.{Why, before}
-use Rattle.command_ending.specs.Command.{Faults, NoFaults, OpenFailed, OneFailed}
+use Rattle.command_edge.specs.declared.fault.Fault.{Fault}
+use Rattle.command_edge.specs.declared.fault.Fault.TheVariants.{Absent, NotImage, FileFault, NoMemory, BadTranscript, TooLong}
+use Rattle.command_edge.specs.Named.{Why, before}
+use Rattle.command_edge.specs.Command.{Faults, NoFaults, OpenFailed, OneFailed}
 use Rattle.replay_command.specs.LastLine.{without_fault_line}
 use Rattle.replay_command.specs.declared.transcript.TheConstants.{TRANSCRIPT_BYTES}
 

@@ -1,17 +1,17 @@
 //! `replay`: a transcript and its images are read, judged and answered in one line.
 ghost use Rattle.std.specs.Prelude.{◌≡◌, ◌<◌, ◌^◌, map, length, All, IfOk};
 ghost use Rattle.io_edge.specs.Calls.{KeepsFiles};
-ghost use Rattle.run_files.specs.ImageWords.{name_in};
+ghost use Rattle.command_edge.specs.ImageWords.{name_in};
 ghost use Rattle.replay_check.specs.Images.{AreImageFiles, AreNumbers};
-ghost use Rattle.command_ending.specs.Ending.{ending_of};
-ghost use Rattle.command_ending.specs.Command.{EndCounted, Made};
+ghost use Rattle.command_edge.specs.Ending.{ending_of};
+ghost use Rattle.command_edge.specs.Command.{EndCounted, Made};
 ghost use Rattle.replay_command.specs.Reading.{read_of_transcript};
 ghost use Rattle.replay_command.specs.Command.{run_line, EndsReplay, EndsVerdict, Replays};
 
 use crate::images::load_images;
 use crate::naming::name_images;
 use crate::transcript::read_entries;
-use command_ending::{Fault, write_ending};
+use command_edge::{Fault, write_ending};
 use io_edge::{Files, Sink};
 use itoa::Buffer;
 use replay_check::{Flat, Verdict, replay};

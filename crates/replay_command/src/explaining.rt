@@ -2,14 +2,14 @@
 ghost use Rattle.std.specs.Prelude.{◌≡◌, ◌<◌, ◌^◌, ◌++◌, map, length, All, IfOk, IfErr, OnOk, option_map};
 ghost use Rattle.io_edge.specs.Calls.{KeepsFiles};
 ghost use Rattle.flat_state.specs.Flat.{Inputs};
-ghost use Rattle.run_files.specs.ImageWords.{name_in};
+ghost use Rattle.command_edge.specs.ImageWords.{name_in};
 ghost use Rattle.replay_check.specs.Images.{AreImageFiles, AreNumbers, images_of};
 ghost use Rattle.replay_command.specs.Explaining.{around_number, before_line, expected_text, explanation, Explained, ExplainsTranscript, LacksTranscript};
 
 use crate::images::load_images;
 use crate::naming::name_images;
 use crate::transcript::read_entries;
-use command_ending::{Fault, put_number};
+use command_edge::{Fault, put_number};
 use io_edge::{Files, MemSink, Moved};
 use replay_check::{Expected, Flat, Misfit, explain};
 use run_text::write_entry;

@@ -2,15 +2,14 @@
 ghost use Rattle.std.specs.Prelude.{◌≡◌, ◌<◌, ℕ, List, Some, map, length, All, IfOk};
 ghost use Rattle.io_edge.specs.Calls.{KeepsFiles};
 ghost use Rattle.io_edge.specs.FileHolding.{NamedFile};
-ghost use Rattle.run_files.specs.Told.{image_told};
+ghost use Rattle.command_edge.specs.Told.{image_told};
 ghost use Rattle.replay_check.specs.Images.{IsImageFile};
-ghost use Rattle.command_ending.specs.Named.{AnswersNamed};
+ghost use Rattle.command_edge.specs.Named.{AnswersNamed};
 ghost use Rattle.replay_command.specs.Reading.{FaultsBy, flat_in, images_told};
 
-use command_ending::Fault;
+use command_edge::{Fault, load_image};
 use io_edge::Files;
 use replay_check::Flat;
-use run_files::load_image;
 use std::alloc::Global;
 
 // The image of this name.

@@ -1,11 +1,10 @@
 //! Which images words name, and with which of them the first processes start.
 ghost use Rattle.std.specs.Prelude.{◌≡◌, ◌<◌, ◌≤◌, ◌^◌, map, length, All, IfOk, IfErr};
-ghost use Rattle.run_files.specs.ImageWords.{name_in, image_names, first_images};
+ghost use Rattle.command_edge.specs.ImageWords.{name_in, image_names, first_images};
 ghost use Rattle.replay_check.specs.Images.{AreNumbers};
-ghost use Rattle.command_ending.specs.declared.fault.Fault.TheVariants.{NoMemory};
+ghost use Rattle.command_edge.specs.declared.fault.Fault.TheVariants.{NoMemory};
 
-use command_ending::Fault;
-use run_files::{first_images, image_names};
+use command_edge::{Fault, first_images, image_names};
 use std::alloc::Global;
 
 /// The names of the images, and the numbers of those that the first processes start with.

@@ -2,14 +2,13 @@
 ghost use Rattle.std.specs.Prelude.{◌≡◌, ◌≤◌, ◌<◌, ◌^◌, ℕ, List, length, IfOk};
 ghost use Rattle.io_edge.specs.Calls.{KeepsFiles};
 ghost use Rattle.io_edge.specs.FileHolding.{NamedFile};
-ghost use Rattle.run_files.specs.Told.{whole_told};
-ghost use Rattle.command_ending.specs.Command.{EndCounted, Made};
+ghost use Rattle.command_edge.specs.Told.{whole_told};
+ghost use Rattle.command_edge.specs.Command.{EndCounted, Made};
 ghost use Rattle.replay_command.specs.Reading.{transcript_bytes, EndsLines, EndsTranscript, items_of};
 
 use crate::last_line::without_fault_line;
-use command_ending::Fault;
+use command_edge::{Fault, read_whole};
 use io_edge::Files;
-use run_files::read_whole;
 use run_text::{Transcript, read_transcript};
 use std::alloc::Global;
 use vm_facts::Entry;

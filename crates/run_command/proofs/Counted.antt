@@ -3,15 +3,15 @@ use Rattle.std.proofs.Common.{◌≡◌, ℕ, List, Option, Some, Ok, Err, refl,
 use Rattle.vm_facts.specs.SwapImages.{SwapImage}
 use Rattle.vm_facts.specs.declared.entry.Entry.{Entry}
 use Rattle.flat_state.specs.Flat.{Inputs}
-use Rattle.command_ending.proofs.Statuses.{status_is_not_0}
+use Rattle.command_edge.proofs.Statuses.{status_is_not_0}
 use Rattle.io_edge.specs.Written.{Appends}
-use Rattle.command_ending.specs.Command.{Writes, All, Prefix}
+use Rattle.command_edge.specs.Command.{Writes, All, Prefix}
 use Rattle.vm_core.specs.Lawful.{IsJournalOf, RunFinished}
 use Rattle.load_maker.specs.Load.{load_images, load_pages}
 use Rattle.load_maker.specs.Counts.{counts_of, load_text}
 use Rattle.load_maker.specs.declared.counts.Counts.{Counts}
-use Rattle.load_laws.specs.Left.{IsLoad, load_counts}
-use Rattle.load_laws.proofs.Ending.{finished_counts}
+use Rattle.load_maker.specs.Left.{IsLoad, load_counts}
+use Rattle.load_maker.proofs.Ending.{finished_counts}
 use Rattle.io_edge.specs.FileRequests.{no_notes}
 use Rattle.io_edge.specs.WithFiles.{image_with_files, with_files}
 use Rattle.run_command.specs.Seen.{Seen}

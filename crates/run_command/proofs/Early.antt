@@ -3,8 +3,8 @@ use Rattle.std.proofs.Common.{◌≡◌, ◌⊎◌, inl, inr, ℕ, Bool, true, L
 use Rattle.std.specs.Prelude.{IfErr}
 use Rattle.vm_facts.specs.declared.entry.Entry.{Entry}
 use Rattle.io_edge.specs.declared.swap_dev.SwapDev.{Ghosts as SwapGhosts}
-use Rattle.command_ending.specs.declared.fault.Fault.TheVariants.{FileFault, SwapReadFault, SwapWriteFault, NoMemory, JournalFull, NoSpace}
-use Rattle.command_ending.specs.Command.{Writes, All, Prefix}
+use Rattle.command_edge.specs.declared.fault.Fault.TheVariants.{FileFault, SwapReadFault, SwapWriteFault, NoMemory, JournalFull, NoSpace}
+use Rattle.command_edge.specs.Command.{Writes, All, Prefix}
 use Rattle.run_command.specs.Outside.{is_early, Early}
 use Rattle.run_command.specs.Paired.{image_together, IsRunFault}
 use Rattle.run_command.specs.Ends.{RunEnding, run_status, WritesRun}

@@ -8,11 +8,11 @@ use Rattle.run_model.specs.State.{State}
 use Rattle.vm_core.specs.Lawful.{IsJournalOf}
 use Rattle.vm_core.specs.RunEnds.{RunEnds}
 use Rattle.run_text.specs.Transcript.{HaveNumbers}
-use Rattle.transcript_laws.specs.Replayed.{IsFlatText}
-use Rattle.transcript_laws.proofs.Texts.{text_flat, empty_flat}
+use Rattle.replay_command.specs.Replayed.{IsFlatText}
+use Rattle.replay_command.proofs.Texts.{text_flat, empty_flat}
 use Rattle.command_words.specs.declared.limits.TheConstants.{MOST_LIMIT}
-use Rattle.command_ending.specs.declared.fault.Fault.{Fault}
-use Rattle.command_ending.specs.declared.fault.Fault.TheVariants.{FileFault, SwapReadFault, SwapWriteFault, NoMemory, JournalFull, NoSpace}
+use Rattle.command_edge.specs.declared.fault.Fault.{Fault}
+use Rattle.command_edge.specs.declared.fault.Fault.TheVariants.{FileFault, SwapReadFault, SwapWriteFault, NoMemory, JournalFull, NoSpace}
 use Rattle.run_command.specs.Seen.{Seen}
 use Rattle.run_command.specs.Ends.{RunEnding, NothingDone, Unbegun, NoneFaulted, RunCaused, FaultEnded, RunEnded, CanBeLost}
 use Rattle.run_command.specs.Paired.{unfinished_of, IsRunFault}

@@ -2,10 +2,10 @@
 use Rattle.std.proofs.Common.{◌≡◌, ℕ, ◌+◌, ◌≤◌, List, [], ◌∷◌, ◌++◌, length, Result, Ok, Err, sym, ◌∙◌, subst, arith}
 use Rattle.vm_facts.specs.declared.event.Event.{Event}
 use Rattle.flat_state.specs.Flat.{NamedImage}
-use Rattle.run_files.specs.declared.answers.Unread.{Unread}
+use Rattle.command_edge.specs.declared.answers.Unread.{Unread}
 use Rattle.run_text.specs.Lines.{AreLines}
 use Rattle.run_text.specs.Schedule.{IsEventLine}
-use Rattle.command_ending.specs.Named.{Why}
+use Rattle.command_edge.specs.Named.{Why}
 use Rattle.run_opening.specs.Schedules.{HasEvents, HasBadEvent}
 use Rattle.run_opening.specs.Opening.{FoundFiles, HasAll, FailsAtImage}
 

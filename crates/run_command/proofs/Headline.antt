@@ -6,12 +6,12 @@ use Rattle.io_edge.specs.FileHolding.{NamedFile}
 use Rattle.io_edge.specs.Striping.{pair_blocks, images_paired, pair_image}
 use Rattle.flat_state.specs.Flat.{NamedImage, Inputs}
 use Rattle.flat_model.specs.Asked.{start_held}
-use Rattle.run_files.specs.declared.answers.Unread.{Unread}
-use Rattle.run_files.specs.ImageWords.{image_names}
+use Rattle.command_edge.specs.declared.answers.Unread.{Unread}
+use Rattle.command_edge.specs.ImageWords.{image_names}
 use Rattle.vm_core.specs.Headline.{Headline, HeadlineOver}
 use Rattle.vm_core.proofs.Headlines.{carries_headline, headline_over}
-use Rattle.command_ending.specs.declared.fault.Fault.TheVariants.{Absent, NotImage, BadSchedule, FileFault, SwapReadFault, SwapWriteFault, NoMemory, JournalFull, NoSpace, ShortDevice}
-use Rattle.command_ending.specs.Named.{Why}
+use Rattle.command_edge.specs.declared.fault.Fault.TheVariants.{Absent, NotImage, BadSchedule, FileFault, SwapReadFault, SwapWriteFault, NoMemory, JournalFull, NoSpace, ShortDevice}
+use Rattle.command_edge.specs.Named.{Why}
 use Rattle.command_words.specs.Asked.{Request}
 use Rattle.run_opening.specs.Schedules.{schedule_found, HasBadEvent}
 use Rattle.run_opening.specs.Images.{images_found}

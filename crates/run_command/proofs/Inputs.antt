@@ -7,7 +7,7 @@ use Rattle.vm_facts.specs.declared.event.Event.{Event}
 use Rattle.vm_facts.specs.declared.event.Event.TheVariants as events
 use Rattle.io_edge.specs.FileHolding.{NamedFile}
 use Rattle.flat_state.specs.Flat.{Inputs}
-use Rattle.run_files.specs.ImageWords.{IsShortName, image_names, first_images}
+use Rattle.command_edge.specs.ImageWords.{IsShortName, image_names, first_images}
 use Rattle.run_text.specs.Schedule.{IsInRanges as IsEventInRanges}
 use Rattle.machine_state.specs.Files.{AreImages}
 use Rattle.vm_core.specs.Files.{AreInputs}

@@ -9,11 +9,11 @@ use Rattle.vm_facts.specs.declared.event.Event.{Event}
 use Rattle.vm_facts.specs.declared.event.Event.TheVariants.{Dispatch, Interrupt, Hands, Swapper, Audit}
 use Rattle.vm_facts.specs.declared.stop.Stop.TheVariants as stops
 use Rattle.vm_core.specs.Lawful.{IsJournalOf, RunHalted}
-use Rattle.command_ending.specs.declared.fault.Fault.TheVariants as faults
-use Rattle.command_ending.specs.Command.{Writes, All, Prefix}
+use Rattle.command_edge.specs.declared.fault.Fault.TheVariants as faults
+use Rattle.command_edge.specs.Command.{Writes, All, Prefix}
 use Rattle.load_maker.specs.Load.{line_of_case, line_drawn, drawn, load_lines}
-use Rattle.load_laws.specs.Few.{moves_asked}
-use Rattle.load_laws.proofs.Short.{loads_short}
+use Rattle.load_maker.specs.Few.{moves_asked}
+use Rattle.load_maker.proofs.Short.{loads_short}
 use Rattle.run_command.specs.Machines.{journal_entries}
 use Rattle.io_edge.specs.FileRequests.{no_notes}
 use Rattle.io_edge.specs.WithFiles.{image_with_files, with_files}

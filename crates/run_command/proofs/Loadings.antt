@@ -10,10 +10,10 @@ use Rattle.flat_state.specs.Flat.{NamedImage, Inputs}
 use Rattle.flat_model.specs.Asked.{start_held}
 use Rattle.machine_state.specs.Outside.{stop_of, CountsFileFaults}
 use Rattle.vm_core.specs.RunEnds.{stopped_as, RunEnds}
-use Rattle.command_ending.specs.declared.fault.Fault.{Fault}
-use Rattle.command_ending.specs.declared.fault.Fault.TheVariants as faults
-use Rattle.command_ending.specs.Command.{NoFaults, Writes, WritesSome}
-use Rattle.command_ending.specs.Named.{Why, AnswersNamed}
+use Rattle.command_edge.specs.declared.fault.Fault.{Fault}
+use Rattle.command_edge.specs.declared.fault.Fault.TheVariants as faults
+use Rattle.command_edge.specs.Command.{NoFaults, Writes, WritesSome}
+use Rattle.command_edge.specs.Named.{Why, AnswersNamed}
 use Rattle.run_opening.specs.Images.{IsImageFault}
 use Rattle.run_opening.specs.Devices.{device_fault}
 use Rattle.run_opening.specs.Opening.{CountsAt}

@@ -20,7 +20,7 @@ use Rattle.vm_core.proofs.FlatLawsImages.{file_fits}
 use Rattle.vm_core.specs.Files.{IsFiled, AreNumbers}
 use Rattle.vax_code.specs.Grammar.{AreOctets}
 use Rattle.run_opening.specs.declared.images.OpenedImage.{OpenedImage}
-use Rattle.run_files.specs.ImageWords.{IsShortName}
+use Rattle.command_edge.specs.ImageWords.{IsShortName}
 use Rattle.run_opening.specs.Images.{image_in, images_in, file_number, file_numbers, IsIn}
 use Rattle.io_edge.specs.Octets.{AreOctetFiles}
 use Rattle.run_command.specs.Naming.{shown_as}

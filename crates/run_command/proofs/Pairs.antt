@@ -13,8 +13,8 @@ use Rattle.machine_state.specs.Outside.{CountsReadFaults, CountsWriteFaults}
 use Rattle.vm_core.specs.declared.schedule.Unfinished.{Unfinished}
 use Rattle.vm_core.specs.declared.schedule.Unfinished.TheVariants as ends
 use Rattle.vm_core.specs.RunEnds.{RunEnds}
-use Rattle.command_ending.specs.declared.fault.Fault.{Fault}
-use Rattle.command_ending.specs.declared.fault.Fault.TheVariants.{FileFault, SwapReadFault, SwapWriteFault, NoMemory, JournalFull, NoSpace}
+use Rattle.command_edge.specs.declared.fault.Fault.{Fault}
+use Rattle.command_edge.specs.declared.fault.Fault.TheVariants.{FileFault, SwapReadFault, SwapWriteFault, NoMemory, JournalFull, NoSpace}
 use Rattle.run_command.specs.Seen.{DeviceFaults, NoneFailed, DeviceFailed}
 use Rattle.run_command.specs.Paired.{unfinished_by, IsFaultOf, IsRunFault, ReadsFail, WritesFail}
 

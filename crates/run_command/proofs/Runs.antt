@@ -19,15 +19,15 @@ use Rattle.machine_state.specs.New.{fresh_kernel}
 use Rattle.machine_state.specs.Sourced.{ImageNamed}
 use Rattle.vm_core.specs.RunEnds.{stopped_as}
 use Rattle.run_text.specs.Transcript.{HaveNumbers}
-use Rattle.command_ending.specs.declared.fault.Fault.{Fault}
-use Rattle.command_ending.specs.declared.fault.Fault.TheVariants.{Absent, NotImage, BadSchedule, FileFault, SwapReadFault, SwapWriteFault, NoMemory, JournalFull, NoSpace, ShortDevice}
-use Rattle.command_ending.specs.Ending.{NeedsMemory}
-use Rattle.command_ending.specs.Command.{Made}
+use Rattle.command_edge.specs.declared.fault.Fault.{Fault}
+use Rattle.command_edge.specs.declared.fault.Fault.TheVariants.{Absent, NotImage, BadSchedule, FileFault, SwapReadFault, SwapWriteFault, NoMemory, JournalFull, NoSpace, ShortDevice}
+use Rattle.command_edge.specs.Ending.{NeedsMemory}
+use Rattle.command_edge.specs.Command.{Made}
 use Rattle.command_words.specs.declared.command.Numbers.{Numbers}
 use Rattle.command_words.specs.Command.{AreAllowed}
 use Rattle.run_opening.specs.declared.images.OpenedImage.{OpenedImage}
 use Rattle.run_opening.specs.declared.opening.Opening.{Opening}
-use Rattle.run_files.specs.ImageWords.{image_names}
+use Rattle.command_edge.specs.ImageWords.{image_names}
 use Rattle.run_opening.specs.Asked.{AsksOpening}
 use Rattle.run_opening.specs.Devices.{device_fault}
 use Rattle.run_opening.specs.Opening.{FoundFiles, found_told, EndsOpening, CountsAt}

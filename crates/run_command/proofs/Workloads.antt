@@ -20,12 +20,12 @@ use Rattle.machine_state.specs.Files.{AreFiles, AreImages}
 use Rattle.vm_core.specs.Reading.{AreNamed}
 use Rattle.vm_core.specs.Longwords.{AllImages}
 use Rattle.vm_core.proofs.Octets.{zero_octets}
-use Rattle.run_files.specs.ImageWords.{IsShortName}
+use Rattle.command_edge.specs.ImageWords.{IsShortName}
 use Rattle.vm_core.specs.Files.{AreInputs}
 use Rattle.vm_core.proofs.Filing.{images_fit}
 use Rattle.vm_core.specs.FirstProcesses.{StartsFrom}
 use Rattle.vm_core.specs.RunEnds.{IsAskedOf}
-use Rattle.command_ending.specs.Named.{Why, before}
+use Rattle.command_edge.specs.Named.{Why, before}
 use Rattle.vax_code.proofs.Readers.{octets-append}
 use Rattle.run_opening.specs.declared.images.OpenedImage.{OpenedImage}
 use Rattle.run_opening.specs.Images.{named_image, image_in, images_found, images_in, file_numbers, IsIn}

@@ -2,7 +2,7 @@
 use Rattle.std.specs.Prelude.{◌≡◌, List, Ok}
 use Rattle.io_edge.specs.FileHolding.{NamedFile}
 use Rattle.flat_state.specs.Flat.{Inputs}
-use Rattle.run_files.specs.ImageWords.{image_names, first_images}
+use Rattle.command_edge.specs.ImageWords.{image_names, first_images}
 use Rattle.command_words.specs.Asked.{Request}
 use Rattle.run_opening.specs.Schedules.{schedule_found, HasEvents}
 use Rattle.run_opening.specs.Images.{images_found, file_numbers}

@@ -10,17 +10,17 @@ use Rattle.flat_state.specs.Flat.{Inputs}
 use Rattle.flat_model.specs.Asked.{start_held}
 use Rattle.run_text.specs.Text.{text_of}
 use Rattle.run_text.specs.Transcript.{HaveNumbers}
-use Rattle.transcript_laws.specs.Replayed.{IsFlatText}
+use Rattle.replay_command.specs.Replayed.{IsFlatText}
 use Rattle.vm_core.specs.Lawful.{RunFinished, RunHalted, RunStarved}
 use Rattle.vm_core.specs.RunEnds.{NoneMade}
-use Rattle.command_ending.specs.declared.fault.Fault.{Fault}
-use Rattle.command_ending.specs.declared.fault.Fault.TheVariants.{Absent, NotImage, BadSchedule, FileFault, SwapReadFault, SwapWriteFault, NoMemory, JournalFull, NoSpace, ShortDevice}
-use Rattle.command_ending.specs.Ending.{fault_status, fault_line, NeedsMemory}
-use Rattle.command_ending.specs.Command.{NoFaults, OpenFailed, PageFailed, Writes}
+use Rattle.command_edge.specs.declared.fault.Fault.{Fault}
+use Rattle.command_edge.specs.declared.fault.Fault.TheVariants.{Absent, NotImage, BadSchedule, FileFault, SwapReadFault, SwapWriteFault, NoMemory, JournalFull, NoSpace, ShortDevice}
+use Rattle.command_edge.specs.Ending.{fault_status, fault_line, NeedsMemory}
+use Rattle.command_edge.specs.Command.{NoFaults, OpenFailed, PageFailed, Writes}
 use Rattle.run_opening.specs.Devices.{device_fault}
 use Rattle.run_opening.specs.Opening.{found_told, HasAll, EndsOpening}
 use Rattle.run_opening.specs.Asked.{AsksOpening}
-use Rattle.run_files.specs.ImageWords.{image_names}
+use Rattle.command_edge.specs.ImageWords.{image_names}
 use Rattle.run_opening.specs.declared.opening.Opening.{Opening}
 use Rattle.io_edge.specs.Octets.{AreOctetFiles}
 use Rattle.command_words.specs.Asked.{Request}

@@ -8,9 +8,9 @@ use Rattle.flat_state.specs.Flat.{Inputs}
 use Rattle.flat_model.specs.Asked.{start_held}
 use Rattle.run_text.specs.Text.{text_of}
 use Rattle.vm_core.specs.Headline.{Headline, HeadlineOver}
-use Rattle.command_ending.specs.declared.fault.Fault.{Fault}
-use Rattle.command_ending.specs.declared.fault.Fault.TheVariants.{Absent, NotImage, BadSchedule, FileFault, SwapReadFault, SwapWriteFault, NoMemory, JournalFull, NoSpace, ShortDevice}
-use Rattle.command_ending.specs.Command.{Writes}
+use Rattle.command_edge.specs.declared.fault.Fault.{Fault}
+use Rattle.command_edge.specs.declared.fault.Fault.TheVariants.{Absent, NotImage, BadSchedule, FileFault, SwapReadFault, SwapWriteFault, NoMemory, JournalFull, NoSpace, ShortDevice}
+use Rattle.command_edge.specs.Command.{Writes}
 use Rattle.command_words.specs.Asked.{Request}
 use Rattle.run_opening.specs.Devices.{device_fault}
 use Rattle.run_command.specs.Asking.{AsksFor}

@@ -7,14 +7,14 @@ use Rattle.vm_facts.specs.declared.entry.Entry.{Entry}
 use Rattle.flat_state.specs.Flat.{NamedImage, Inputs}
 use Rattle.flat_model.specs.Asked.{start_held}
 use Rattle.vm_core.specs.RunEnds.{NoneMade}
-use Rattle.command_ending.specs.declared.fault.Fault.TheVariants.{FileFault, NoMemory, NoSpace, ShortDevice}
-use Rattle.command_ending.specs.Ending.{fault_status, fault_line, NeedsMemory}
-use Rattle.command_ending.specs.Command.{NoFaults, Writes}
+use Rattle.command_edge.specs.declared.fault.Fault.TheVariants.{FileFault, NoMemory, NoSpace, ShortDevice}
+use Rattle.command_edge.specs.Ending.{fault_status, fault_line, NeedsMemory}
+use Rattle.command_edge.specs.Command.{NoFaults, Writes}
 use Rattle.command_words.specs.declared.command.Numbers.{Numbers}
 use Rattle.run_opening.specs.Devices.{device_fault}
 use Rattle.load_maker.specs.Load.{load_files, load_images, load_lines}
 use Rattle.load_maker.specs.Counts.{counts_of, load_text}
-use Rattle.load_laws.specs.Left.{load_counts}
+use Rattle.load_maker.specs.Left.{load_counts}
 use Rattle.io_edge.specs.FileRequests.{no_notes}
 use Rattle.io_edge.specs.WithFiles.{image_with_files, with_files}
 use Rattle.run_opening.specs.Images.{file_numbers}

@@ -5,7 +5,7 @@ use Rattle.io_edge.specs.FileHolding.{NamedFile}
 use Rattle.io_edge.specs.FileRequests.{FileNotes}
 use Rattle.io_edge.specs.WithFiles.{with_files}
 use Rattle.io_edge.specs.PairFailures.{RoseAlone}
-use Rattle.command_ending.specs.Command.{Faults}
+use Rattle.command_edge.specs.Command.{Faults}
 
 -- counts of failed calls of one kind on both swap devices
 pub record DeviceFaults : Type 0 where

@@ -5,7 +5,7 @@ use Rattle.io_edge.specs.FileRequests.{FileNotes}
 use Rattle.io_edge.specs.declared.files.Files.{Ghosts as FilesGhosts}
 use Rattle.io_edge.specs.declared.swap_dev.SwapDev.{Ghosts as SwapGhosts}
 use Rattle.io_edge.specs.declared.sink.Sink.{Ghosts as SinkGhosts}
-use Rattle.command_ending.specs.Command.{Faults}
+use Rattle.command_edge.specs.Command.{Faults}
 use Rattle.run_command.specs.Seen.{Seen}
 use Rattle.run_command.specs.Paired.{image_together}
 

@@ -19,7 +19,7 @@ ghost use Rattle.run_command.specs.Headlines.{CarriesHeadline};
 use crate::naming::name_images;
 use crate::paired::run_paired;
 use crate::writing::write_run;
-use command_ending::Fault;
+use command_edge::Fault;
 use command_words::{ImageWords, JOURNAL_ENTRIES, Numbers};
 use io_edge::{Files, Sink, SwapDev};
 use run_opening::{OpenedImage, Opening, open_run};

@@ -18,7 +18,7 @@ ghost use Rattle.run_command.specs.Loads.{load_first, load_numbers, WritesCounts
 
 use crate::command::core_of;
 use crate::paired::run_paired;
-use command_ending::{Fault, write_ending};
+use command_edge::{Fault, write_ending};
 use command_words::Numbers;
 use io_edge::{Files, Sink, SureFiles, SwapDev};
 use load_maker::{Load, counts_of, load_text, make_load};

@@ -15,7 +15,7 @@ ghost use Rattle.vm_core.specs.RunEnds.{stopped_as, IsAskedOf, RunEnds};
 ghost use Rattle.run_command.specs.Outside.{KeepsDevices};
 ghost use Rattle.run_command.specs.Paired.{image_together, unfinished_of, IsFaultOf, IsRunFault, ReadsFail, WritesFail};
 
-use command_ending::Fault;
+use command_edge::Fault;
 use io_edge::{Files, SwapDev, SwapPair};
 use vm_core::{Core, Unfinished, run_schedule};
 use vm_facts::{Event, Stop};

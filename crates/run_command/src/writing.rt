@@ -2,10 +2,10 @@
 ghost use Rattle.std.specs.Prelude.{◌++◌};
 ghost use Rattle.run_text.specs.Text.{text_of};
 ghost use Rattle.run_text.specs.Transcript.{HaveNumbers};
-ghost use Rattle.command_ending.specs.Command.{Writes};
+ghost use Rattle.command_edge.specs.Command.{Writes};
 ghost use Rattle.run_command.specs.Ends.{WritesRun};
 
-use command_ending::{Fault, NO_MEMORY};
+use command_edge::{Fault, NO_MEMORY};
 use io_edge::{Moved, Sink};
 use run_text::{have_numbers, write_text};
 use std::alloc::Global;

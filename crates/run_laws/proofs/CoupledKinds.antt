@@ -27,7 +27,7 @@ use Rattle.run_model.specs.Wanted.{touched_next, locked, Splits}
 use Rattle.run_model.specs.Snapshot.{touched_of}
 use Rattle.run_model.proofs.Wanting.{wanted_splits}
 use Rattle.run_model.specs.Next.{fill_by, fill_unit, begins_write, move_by, owners_entry}
-use Rattle.run_model.specs.Kinds.{Kind, Fills, Brings, Copies, ServesWanted, Acts, ProcessComes, Interrupts, Moves, PutsOut, Notes, Begins}
+use Rattle.run_model.specs.Kinds.{Kind, Fills, Brings, Copies, ServesWanted, Acts, ProcessComes, Interrupts, HandsMove, ProcessGoes, Notes, Begins}
 use Rattle.run_laws.specs.Standing.{TextsHeld}
 use Rattle.run_laws.proofs.Allowed.{first_due}
 use Rattle.run_laws.proofs.Units.{Stood, not_due}
@@ -114,12 +114,12 @@ kind_goes A s k image read u x st nums texts (ServesWanted pid now q r w i) n y 
 kind_goes A s k image read u x st nums texts (Acts pid now r w a) n y = subst (Couples A s k image read) (sym (act_plain A s pid u a n)) (finish A s k image read x)
 kind_goes A s k image read u x st nums texts (ProcessComes pid e c i) n y = absurd (subst Stays i y)
 kind_goes A s k image read u x st nums texts (Interrupts e m i) n y = subst (Couples A s k image read) (sym i) (finish A s k image read x)
-kind_goes A s k image read u x st nums texts (Moves count e m l w i) n y = subst (Couples A s k image read) (sym i) (move (begins_write s.place (locked A s) && is_full s.place))
+kind_goes A s k image read u x st nums texts (HandsMove count e m l w i) n y = subst (Couples A s k image read) (sym i) (move (begins_write s.place (locked A s) && is_full s.place))
   where
     move : (b : Bool) → Couples A s k image read (move_by b)
     move true = finish A s k image read x
     move false = goes_hand A.swap_blocks k A.images image s.point.flat (locked A s) read x.machine
-kind_goes A s k image read u x st nums texts (PutsOut pid e m i) n y =
+kind_goes A s k image read u x st nums texts (ProcessGoes pid e m i) n y =
     let sid : ℕ = space_of_process (process_of s.point.flat pid) in
     subst (λ (e : Entry). Stays e → Couples A s k image read e) (sym i)
     (subst (λ (p : Placement). Stays (put_out_unit p pid sid) → Couples A s k image read (put_out_unit p pid sid)) x.same

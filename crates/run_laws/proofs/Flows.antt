@@ -33,7 +33,7 @@ use Rattle.run_model.specs.After.{after, completed}
 use Rattle.run_model.specs.Act.{must_refuse, must_settle, act_by, act_if, act, awaits, IsNext, LastSays}
 use Rattle.run_model.proofs.Acting.{next_says}
 use Rattle.run_model.specs.Next.{when, or_else, goes_on, turn_instructions, work, work_by, turn_by, turn_unit, under, next_mark, next_unit}
-use Rattle.run_model.specs.Kinds.{GoesOn, ProcessRuns, Kind, Fills, Brings, Copies, ServesWanted, Acts, ProcessComes, Interrupts, Moves, PutsOut, Notes, Begins}
+use Rattle.run_model.specs.Kinds.{GoesOn, ProcessRuns, Kind, Fills, Brings, Copies, ServesWanted, Acts, ProcessComes, Interrupts, HandsMove, ProcessGoes, Notes, Begins}
 use Rattle.run_model.proofs.NextUnits.{kind_of}
 use Rattle.std.proofs.lemmas.Bool.{and_parts}
 use Rattle.std.proofs.lemmas.Option.{same_Some}
@@ -130,8 +130,8 @@ next_or A s u w (ServesWanted pid now q r e i) = inl (serve_plain s.place q now 
 next_or A s u w (Acts pid now r e i) = inr (record { pid = pid; next = i; awaited = awaited_by A s u pid now r s.point.last w })
 next_or A s u w (ProcessComes pid e c i) = inl (ap process_of_entry i)
 next_or A s u w (Interrupts e m i) = inl (ap process_of_entry i)
-next_or A s u w (Moves count e m l k i) = inl (ap process_of_entry i ∙ Rattle.run_laws.proofs.Plain.move_flat s.place (locked A s))
-next_or A s u w (PutsOut pid e m i) =
+next_or A s u w (HandsMove count e m l k i) = inl (ap process_of_entry i ∙ Rattle.run_laws.proofs.Plain.move_flat s.place (locked A s))
+next_or A s u w (ProcessGoes pid e m i) =
     inl (ap process_of_entry i ∙ Rattle.run_laws.proofs.Plain.put_flat s.place pid (Rattle.page_model.specs.Place.space_of_process (Rattle.flat_state.specs.Flat.process_of s.point.flat pid)))
 next_or A s u w (Notes e m i) = inl (ap process_of_entry i)
 next_or A s u w (Begins e n i) = inl (Rattle.run_laws.proofs.Plain.mark_flat A s u i)
@@ -556,8 +556,8 @@ flows_on A s u o f h = go (kind_of A s u h)
     go (ServesWanted pid now q r e i) = plain (serve_plain s.place q now u i)
     go (ProcessComes pid e c i) = plain (ap process_of_entry i)
     go (Interrupts e m i) = plain (ap process_of_entry i)
-    go (Moves count e m l k i) = plain (ap process_of_entry i ∙ Rattle.run_laws.proofs.Plain.move_flat s.place (locked A s))
-    go (PutsOut pid e m i) =
+    go (HandsMove count e m l k i) = plain (ap process_of_entry i ∙ Rattle.run_laws.proofs.Plain.move_flat s.place (locked A s))
+    go (ProcessGoes pid e m i) =
         plain (ap process_of_entry i ∙ Rattle.run_laws.proofs.Plain.put_flat s.place pid (Rattle.page_model.specs.Place.space_of_process (Rattle.flat_state.specs.Flat.process_of s.point.flat pid)))
     go (Notes e m i) = plain (ap process_of_entry i)
     go (Begins e m i) = plain (Rattle.run_laws.proofs.Plain.mark_flat A s u i)

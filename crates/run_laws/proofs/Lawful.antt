@@ -33,7 +33,7 @@ use Rattle.run_model.proofs.After.{state_appended}
 use Rattle.run_model.proofs.FlatRuns.{run_held, run_flat}
 use Rattle.run_model.proofs.Acting.{next_run}
 use Rattle.run_model.specs.Next.{fill_by, fill_unit, begins_write, move_by, next_unit}
-use Rattle.run_model.specs.Kinds.{Kind, Fills, Brings, Copies, ServesWanted, Acts, ProcessComes, Interrupts, Moves, PutsOut, Notes, Begins}
+use Rattle.run_model.specs.Kinds.{Kind, Fills, Brings, Copies, ServesWanted, Acts, ProcessComes, Interrupts, HandsMove, ProcessGoes, Notes, Begins}
 use Rattle.run_model.specs.Lawful.{Follows, Reaches, IsLawful}
 use Rattle.run_model.proofs.NextUnits.{kind_of}
 use Rattle.run_laws.specs.Flowing.{Flows}
@@ -136,8 +136,8 @@ next_is_unit A s u h = go (kind_of A s u h)
     go (ServesWanted pid now q x w i) = subst IsUnit (sym (unit_is s.place q now u i).1) (serve_is s.place q)
     go (ProcessComes pid e c i) = subst IsUnit (sym i) tt
     go (Interrupts e j i) = subst IsUnit (sym i) tt
-    go (Moves count e j l w i) = subst IsUnit (sym i) (move_is (begins_write s.place (locked A s) && is_full s.place))
-    go (PutsOut pid e j i) = subst IsUnit (sym i) (unit_case IsUnit s.place pid (space_of_process (process_of s.point.flat pid)) (λ t ts h. tt) (λ v e h k. tt) (λ e h. tt))
+    go (HandsMove count e j l w i) = subst IsUnit (sym i) (move_is (begins_write s.place (locked A s) && is_full s.place))
+    go (ProcessGoes pid e j i) = subst IsUnit (sym i) (unit_case IsUnit s.place pid (space_of_process (process_of s.point.flat pid)) (λ t ts h. tt) (λ v e h k. tt) (λ e h. tt))
     go (Notes e j i) = subst IsUnit (sym i) tt
     go (Begins e j i) = begins_is IsUnit A s u i mark
 

@@ -13,7 +13,7 @@ use Rattle.page_laws.proofs.Moves.Cases.{forcing_entry, serving_entries}
 use Rattle.run_model.specs.State.{State}
 use Rattle.run_model.specs.Wanted.{locked}
 use Rattle.run_model.specs.Next.{fill_by, fill_unit, begins_write, move_by, move_unit, owners_of, next_unit}
-use Rattle.run_model.specs.Kinds.{Kind, Fills, Brings, Copies, ServesWanted, Acts, ProcessComes, Interrupts, Moves, PutsOut, Notes, Begins}
+use Rattle.run_model.specs.Kinds.{Kind, Fills, Brings, Copies, ServesWanted, Acts, ProcessComes, Interrupts, HandsMove, ProcessGoes, Notes, Begins}
 use Rattle.run_model.proofs.NextUnits.{kind_of}
 use Rattle.run_laws.proofs.Settling.{IsMark, begins_is}
 use Rattle.run_laws.proofs.Flows.{Acted, Settles, Refuses, Steps, acted, steps_own}
@@ -62,8 +62,8 @@ other_or_noted A s u (ServesWanted pid now q r w i) = inr (subst IsOther (sym (u
 other_or_noted A s u (Acts pid now r w a) = inr (acted_other A s pid u (acted A s pid u a))
 other_or_noted A s u (ProcessComes pid e c i) = inr (subst IsOther (sym i) tt)
 other_or_noted A s u (Interrupts e j i) = inr (subst IsOther (sym i) tt)
-other_or_noted A s u (Moves count e j l w i) = inr (subst IsOther (sym i) (moved_other s.place (locked A s)))
-other_or_noted A s u (PutsOut pid e j i) = inr (subst IsOther (sym i) (unit_case IsOther s.place pid (space_of_process (process_of s.point.flat pid)) (λ t ts h. tt) (λ v h y z. tt) (λ h y. tt)))
+other_or_noted A s u (HandsMove count e j l w i) = inr (subst IsOther (sym i) (moved_other s.place (locked A s)))
+other_or_noted A s u (ProcessGoes pid e j i) = inr (subst IsOther (sym i) (unit_case IsOther s.place pid (space_of_process (process_of s.point.flat pid)) (λ t ts h. tt) (λ v h y z. tt) (λ h y. tt)))
 other_or_noted A s u (Notes e j i) = inl i
 other_or_noted A s u (Begins e j i) = inr (begins_is IsOther A s u i mark_other)
 

@@ -28,7 +28,7 @@ use Rattle.run_model.specs.State.{State}
 use Rattle.run_model.specs.Wanted.{locked}
 use Rattle.run_model.specs.After.{after}
 use Rattle.run_model.specs.Next.{fill_unit, move_unit, begins_write, next_mark, next_unit}
-use Rattle.run_model.specs.Kinds.{ProcessRuns, Kind, Fills, Brings, Copies, ServesWanted, Acts, ProcessComes, Interrupts, Moves, PutsOut, Notes, Begins}
+use Rattle.run_model.specs.Kinds.{ProcessRuns, Kind, Fills, Brings, Copies, ServesWanted, Acts, ProcessComes, Interrupts, HandsMove, ProcessGoes, Notes, Begins}
 use Rattle.run_model.specs.Lawful.{Follows}
 use Rattle.run_model.proofs.NextUnits.{kind_of}
 use Rattle.run_laws.specs.Standing.{Placed, TextsHeld, MarkStands}
@@ -122,9 +122,9 @@ mark_on A s u o n m k = go k
     go (Acts pid now r w a) = free (acts pid (acted A s pid u a)) (on_free A s s.mark pid now r.on)
     go (ProcessComes pid e c i) = is (entries.SwapIn pid) i (come_free A s pid s.mark refl c)
     go (Interrupts e j i) = is entries.Done i (done_free A s j)
-    go (Moves count e j l w i) =
+    go (HandsMove count e j l w i) =
         subst (λ (x : Entry). MarkStands (after A s x) (after A s x).mark) (sym i) (hands_stand A s count (begins_write s.place (locked A s) && Rattle.page_model.specs.Serve.is_full s.place) o e j)
-    go (PutsOut pid e j i) = subst (λ (x : Entry). MarkStands (after A s x) (after A s x).mark) (sym i)
+    go (ProcessGoes pid e j i) = subst (λ (x : Entry). MarkStands (after A s x) (after A s x).mark) (sym i)
         (put_stands A s pid (space_of_process (process_of s.point.flat pid)) o e j
         (let y : (s.place.due ≡ []) × (holds_some (process_of s.point.flat pid) ≡ true) × (Rattle.page_model.specs.Swapper.is_out s.place pid ≡ false) = subst (MarkStands s) j m in y.1)
         (let y : (s.place.due ≡ []) × (holds_some (process_of s.point.flat pid) ≡ true) × (Rattle.page_model.specs.Swapper.is_out s.place pid ≡ false) = subst (MarkStands s) j m in y.2))
@@ -171,8 +171,8 @@ core_on A s u images execs r k = go k
     go (ServesWanted pid now q x w i) = plain (ap process_of_entry (unit_is s.place q now u i).1 ∙ Rattle.run_laws.proofs.Plain.serve_flat s.place q)
     go (ProcessComes pid e c i) = plain (ap process_of_entry i)
     go (Interrupts e j i) = plain (ap process_of_entry i)
-    go (Moves count e j l w i) = plain (ap process_of_entry i ∙ Rattle.run_laws.proofs.Plain.move_flat s.place (locked A s))
-    go (PutsOut pid e j i) = plain (ap process_of_entry i ∙ Rattle.run_laws.proofs.Plain.put_flat s.place pid (space_of_process (process_of s.point.flat pid)))
+    go (HandsMove count e j l w i) = plain (ap process_of_entry i ∙ Rattle.run_laws.proofs.Plain.move_flat s.place (locked A s))
+    go (ProcessGoes pid e j i) = plain (ap process_of_entry i ∙ Rattle.run_laws.proofs.Plain.put_flat s.place pid (space_of_process (process_of s.point.flat pid)))
     go (Notes e j i) = plain (ap process_of_entry i)
     go (Begins e j i) = plain (Rattle.run_laws.proofs.Plain.mark_flat A s u i)
 

@@ -17,7 +17,7 @@ use Rattle.run_model.specs.State.{State}
 use Rattle.run_model.specs.Wanted.{wanted, locked}
 use Rattle.run_model.specs.After.{after}
 use Rattle.run_model.specs.Next.{fill_unit, move_unit, owners_entry}
-use Rattle.run_model.specs.Kinds.{Comes, Kind, Fills, Brings, Copies, ServesWanted, Acts, ProcessComes, Interrupts, Moves, PutsOut, Notes, Begins}
+use Rattle.run_model.specs.Kinds.{Comes, Kind, Fills, Brings, Copies, ServesWanted, Acts, ProcessComes, Interrupts, HandsMove, ProcessGoes, Notes, Begins}
 use Rattle.run_laws.specs.Standing.{MarkStands}
 use Rattle.run_laws.proofs.Plain.{IsPaging, paging_plain, serve_paging, zero_paging, copy_paging, move_paging}
 use Rattle.run_laws.proofs.Settling.{IsMark, begins_is}
@@ -70,8 +70,8 @@ sort_of A s u m (Acts pid now r w a) = go (acted A s pid u a)
     ]
 sort_of A s u m (ProcessComes pid e c i) = GoesIn pid i (comes_out A s pid m c)
 sort_of A s u m (Interrupts e j i) = pages A s u entries.Done i tt
-sort_of A s u m (Moves count e j l w i) = pages A s u (move_unit s.place (locked A s)) i (move_paging s.place (locked A s))
-sort_of A s u m (PutsOut pid e j i) =
+sort_of A s u m (HandsMove count e j l w i) = pages A s u (move_unit s.place (locked A s)) i (move_paging s.place (locked A s))
+sort_of A s u m (ProcessGoes pid e j i) =
     let sid : ℕ = space_of_process (process_of s.point.flat pid) in
     let stands : (s.place.due ≡ []) × (holds_some (process_of s.point.flat pid) ≡ true) × (is_out s.place pid ≡ false) = subst (MarkStands s) j m in
     subst (Sort A s) (sym i) (unit_case (Sort A s) s.place pid sid (λ t ts h. Pages refl tt) (λ v h y z. Pages refl tt) (λ h y. GoesOff pid refl stands.2 stands.1))

@@ -26,7 +26,7 @@ use Rattle.run_model.specs.State.{State}
 use Rattle.run_model.specs.Wanted.{AllValid, locked}
 use Rattle.run_model.specs.After.{snapshot_of}
 use Rattle.run_model.specs.Next.{when, or_else, line_or_turn, turn_of, pid_if, next_ready, next_turned, last_turned, next_mark, next_unit}
-use Rattle.run_model.specs.Kinds.{Kind, Fills, Brings, Copies, ServesWanted, Acts, ProcessComes, Interrupts, Moves, PutsOut, Notes, Begins}
+use Rattle.run_model.specs.Kinds.{Kind, Fills, Brings, Copies, ServesWanted, Acts, ProcessComes, Interrupts, HandsMove, ProcessGoes, Notes, Begins}
 use Rattle.run_model.proofs.NextUnits.{kind_of}
 use Rattle.run_laws.specs.Standing.{Placed, machine_of}
 use Rattle.run_laws.specs.Running.{IsRun, ReadyToStep}
@@ -63,8 +63,8 @@ mark_begins A s u k (Acts pid now r w a) = by (acted A s pid u a)
     by (Steps f g i) = absurd (let z : None ≡ Some pid = sym (mark_own u k) ∙ steps_own A s.point pid u i in cc)
 mark_begins A s u k (ProcessComes pid e c i) = absurd (subst IsMark i k)
 mark_begins A s u k (Interrupts e m i) = absurd (subst IsMark i k)
-mark_begins A s u k (Moves count e m l w i) = absurd (mark_pages u k (subst IsPaging (sym i) (move_paging s.place (locked A s))))
-mark_begins A s u k (PutsOut pid e m i) = absurd (unit_case (λ (x : Entry). IsMark x → ⊥) s.place pid (space_of_process (process_of s.point.flat pid))
+mark_begins A s u k (HandsMove count e m l w i) = absurd (mark_pages u k (subst IsPaging (sym i) (move_paging s.place (locked A s))))
+mark_begins A s u k (ProcessGoes pid e m i) = absurd (unit_case (λ (x : Entry). IsMark x → ⊥) s.place pid (space_of_process (process_of s.point.flat pid))
     (λ t ts h z. z) (λ v a h w z. z) (λ a h z. z) (subst IsMark i k))
 mark_begins A s u k (Notes e m i) = absurd (subst IsMark i k)
 mark_begins A s u k (Begins e m i) = i

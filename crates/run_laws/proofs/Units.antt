@@ -29,7 +29,7 @@ use Rattle.run_model.specs.After.{place_at, after}
 use Rattle.run_model.specs.Act.{act}
 use Rattle.run_model.proofs.Wanting.{wanted_splits}
 use Rattle.run_model.specs.Next.{fill_unit, move_unit, owners_entry}
-use Rattle.run_model.specs.Kinds.{Kind, Fills, Brings, Copies, ServesWanted, Acts, ProcessComes, Interrupts, Moves, PutsOut, Notes, Begins}
+use Rattle.run_model.specs.Kinds.{Kind, Fills, Brings, Copies, ServesWanted, Acts, ProcessComes, Interrupts, HandsMove, ProcessGoes, Notes, Begins}
 use Rattle.run_laws.specs.Standing.{IsAllowed, machine_of, Placed, MarkStands, TextsHeld}
 use Rattle.run_laws.proofs.Allowed.{first_due, served_allowed, served_few, start_allowed, copy_allowed, fill_few, put_out_allowed, move_allowed, move_few, done_allowed}
 use Rattle.run_laws.proofs.Paging.{LeaverHolds, entry_placed}
@@ -151,10 +151,10 @@ kind_good A s u st nums texts m (ProcessComes pid e c i) n =
 kind_good A s u st nums texts m (Interrupts e k i) n =
     paged A s u entries.Done i tt (done_allowed s.place (let x : (s.place.due ≡ []) × (0 < length s.place.transfers) = subst (MarkStands s) k m in x.1))
     (let l = sixteen A s st in let k = done_count s.place in omega arith)
-kind_good A s u st nums texts m (Moves count e k l w i) n =
+kind_good A s u st nums texts m (HandsMove count e k l w i) n =
     paged A s u (move_unit s.place (locked A s)) i (move_paging s.place (locked A s)) (move_allowed s.place (locked A s))
     (move_few (locked A s) (place_at s (move_unit s.place (locked A s))) s.place (sixteen A s st))
-kind_good A s u st nums texts m (PutsOut pid e k i) n =
+kind_good A s u st nums texts m (ProcessGoes pid e k i) n =
     let sid : ℕ = space_of_process (process_of s.point.flat pid) in
     subst (Good A s) (sym i) (record {
       plain = put_flat s.place pid sid;

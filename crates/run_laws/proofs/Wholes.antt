@@ -17,7 +17,7 @@ use Rattle.run_model.specs.Snapshot.{touched_of}
 use Rattle.run_model.specs.After.{after}
 use Rattle.run_model.proofs.Wanting.{wanted_none}
 use Rattle.run_model.specs.Next.{turn_instructions, next_unit}
-use Rattle.run_model.specs.Kinds.{GoesOn, ProcessRuns, Kind, Fills, Brings, Copies, ServesWanted, Acts, ProcessComes, Interrupts, Moves, PutsOut, Notes, Begins}
+use Rattle.run_model.specs.Kinds.{GoesOn, ProcessRuns, Kind, Fills, Brings, Copies, ServesWanted, Acts, ProcessComes, Interrupts, HandsMove, ProcessGoes, Notes, Begins}
 use Rattle.run_model.specs.Lawful.{Follows, Reaches, IsLawful}
 use Rattle.run_model.proofs.NextUnits.{kind_of}
 use Rattle.std.proofs.lemmas.Bool.{and_parts}
@@ -114,7 +114,7 @@ unit_ready A s u pid h e = go (kind_of A s u h)
     go (ServesWanted p now q x w i) = none (ap process_of_entry (unit_is s.place q now u i).1 ∙ serve_flat s.place q)
     go (ProcessComes p e c i) = none (ap process_of_entry i)
     go (Interrupts e j i) = none (ap process_of_entry i)
-    go (Moves count e j l w i) = none (ap process_of_entry i ∙ move_flat s.place (locked A s))
-    go (PutsOut p e j i) = none (ap process_of_entry i ∙ put_flat s.place p (Rattle.page_model.specs.Place.space_of_process (Rattle.flat_state.specs.Flat.process_of s.point.flat p)))
+    go (HandsMove count e j l w i) = none (ap process_of_entry i ∙ move_flat s.place (locked A s))
+    go (ProcessGoes p e j i) = none (ap process_of_entry i ∙ put_flat s.place p (Rattle.page_model.specs.Place.space_of_process (Rattle.flat_state.specs.Flat.process_of s.point.flat p)))
     go (Notes e j i) = none (ap process_of_entry i)
     go (Begins e j i) = none (mark_flat A s u i)

@@ -15,7 +15,7 @@ use Rattle.run_model.specs.declared.mark.Mark.TheVariants as marks
 use Rattle.run_model.specs.State.{State}
 use Rattle.run_model.specs.Wanted.{wanted, locked}
 use Rattle.run_model.specs.Next.{when, or_else, fill_unit, copy_unit_by, due_unit, goes_on, work_by, work, turn_by, turn_unit, turn_instructions, move_unit, owners_entry, under, next_mark, next_unit}
-use Rattle.run_model.specs.Kinds.{GoesOn, ProcessRuns, Comes, Kind, Fills, Brings, Copies, ServesWanted, Acts, ProcessComes, Interrupts, Moves, PutsOut, Notes, Begins}
+use Rattle.run_model.specs.Kinds.{GoesOn, ProcessRuns, Comes, Kind, Fills, Brings, Copies, ServesWanted, Acts, ProcessComes, Interrupts, HandsMove, ProcessGoes, Notes, Begins}
 
 some_entry : (x y : Entry) → Some x ≡ Some y → y ≡ x
 some_entry x y e = cc
@@ -42,10 +42,10 @@ of_mark A s u clear (marks.Hands count) e h = go (nat_lt 0 count && wants_moves 
     go : (b : Bool) → (nat_lt 0 count && wants_moves s.place) ≡ b → when b (Some (move_unit s.place (locked A s))) ≡ Some u → Kind A s u
     go true k h =
         let b = and_parts (nat_lt 0 count) (wants_moves s.place) k in
-        Moves count clear e (ltb-true 0 count b.0) b.1 (some_entry (move_unit s.place (locked A s)) u h)
+        HandsMove count clear e (ltb-true 0 count b.0) b.1 (some_entry (move_unit s.place (locked A s)) u h)
     go false k h = absurd cc
 of_mark A s u clear (marks.BringIn pid) e h = ProcessComes pid clear (subst (λ (x : Mark). Comes A s x pid) (sym e) refl) (some_entry (entries.SwapIn pid) u h)
-of_mark A s u clear (marks.PutOut pid) e h = PutsOut pid clear e (some_entry (put_out_unit s.place pid (space_of_process (process_of s.point.flat pid))) u h)
+of_mark A s u clear (marks.PutOut pid) e h = ProcessGoes pid clear e (some_entry (put_out_unit s.place pid (space_of_process (process_of s.point.flat pid))) u h)
 of_mark A s u clear marks.Audit e h = Notes clear e (some_entry (owners_entry s) u h)
 of_mark A s u clear (marks.Turn pid since) e h = go (goes_on A s pid (since + turn_instructions)) refl h
   where

@@ -49,8 +49,9 @@ pub data Kind (A : Inputs) (s : State) (u : Entry) : Type 0 where
   Acts : (pid : ℕ) (now : Bool) → ProcessRuns A s pid now → wanted A s ≡ None → act A s pid ≡ Some u → Kind A s u
   ProcessComes : (pid : ℕ) → s.place.due ≡ [] → Comes A s s.mark pid → u ≡ entries.SwapIn pid → Kind A s u
   Interrupts : s.place.due ≡ [] → s.mark ≡ marks.Interrupt → u ≡ entries.Done → Kind A s u
-  Moves : (count : ℕ) → s.place.due ≡ [] → s.mark ≡ marks.Hands count → 0 < count → wants_moves s.place ≡ true → u ≡ move_unit s.place (locked A s) → Kind A s u
-  PutsOut : (pid : ℕ) → s.place.due ≡ [] → s.mark ≡ marks.PutOut pid
+  HandsMove : (count : ℕ) → s.place.due ≡ [] → s.mark ≡ marks.Hands count → 0 < count → wants_moves s.place ≡ true
+      → u ≡ move_unit s.place (locked A s) → Kind A s u
+  ProcessGoes : (pid : ℕ) → s.place.due ≡ [] → s.mark ≡ marks.PutOut pid
       → u ≡ put_out_unit s.place pid (space_of_process (process_of s.point.flat pid)) → Kind A s u
   Notes : s.place.due ≡ [] → s.mark ≡ marks.Audit → u ≡ owners_entry s → Kind A s u
   -- the last mark is over: the next line, or a turn

@@ -5,16 +5,16 @@ use Rattle.std.proofs.lemmas.Option.{same_Some}
 use Rattle.io_edge.specs.FileHolding.{NamedFile}
 use Rattle.io_edge.specs.Striping.{zero_needs, one_needs}
 use Rattle.io_edge.specs.FileRequests.{FileNotes}
-use Rattle.run_files.specs.Asked.{IsFound, AsksFront}
-use Rattle.run_files.specs.declared.answers.Unread.{Unread}
-use Rattle.command_ending.specs.declared.fault.Fault.{Fault}
-use Rattle.command_ending.specs.declared.fault.Fault.TheVariants as faults
+use Rattle.command_edge.specs.Asked.{IsFound, AsksFront}
+use Rattle.command_edge.specs.declared.answers.Unread.{Unread}
+use Rattle.command_edge.specs.declared.fault.Fault.{Fault}
+use Rattle.command_edge.specs.declared.fault.Fault.TheVariants as faults
 use Rattle.vm_facts.specs.declared.event.Event.{Event}
 use Rattle.run_opening.specs.declared.opening.Opening.{Opening}
 use Rattle.run_opening.specs.Asked.{header_bytes, IsAbout, AsksHeaders, AsksSomeHeaders, AsksAfterSchedule, AsksOpening}
-use Rattle.run_files.specs.declared.answers.Unread.TheVariants as unreads
-use Rattle.command_ending.specs.Ending.{fault_of}
-use Rattle.command_ending.specs.Command.{Faults}
+use Rattle.command_edge.specs.declared.answers.Unread.TheVariants as unreads
+use Rattle.command_edge.specs.Ending.{fault_of}
+use Rattle.command_edge.specs.Command.{Faults}
 use Rattle.run_opening.specs.Schedules.{schedule_bytes, EndsSchedule}
 use Rattle.run_opening.specs.Images.{IsImageFault}
 use Rattle.run_opening.specs.Devices.{device_fault}

@@ -8,9 +8,9 @@ use Rattle.aout_image.specs.declared.Image.{Image}
 use Rattle.aout_image.specs.Image.{Loaded, loaded, judged_image}
 use Rattle.aout_image.proofs.Images.{image_of-is}
 use Rattle.flat_state.specs.Flat.{NamedImage}
-use Rattle.run_files.specs.Told.{facts_in, facts_told, facts_told_at}
-use Rattle.command_ending.specs.Named.{Why, before}
-use Rattle.command_ending.proofs.Behind.{behind}
+use Rattle.command_edge.specs.Told.{facts_in, facts_told, facts_told_at}
+use Rattle.command_edge.specs.Named.{Why, before}
+use Rattle.command_edge.proofs.Behind.{behind}
 use Rattle.run_opening.specs.declared.images.OpenedImage.{OpenedImage}
 use Rattle.run_opening.specs.Images.{named_image, image_found_at, image_found, images_found, image_in, images_in, IsIn, opened_heading, AreOpened}
 

@@ -5,7 +5,7 @@ use Rattle.std.specs.List.{filter, filter_map, cons_option}
 use Rattle.std.proofs.lemmas.List.{length-map}
 use Rattle.std.proofs.lemmas.Simd.{map-map}
 use Rattle.std.proofs.lemmas.List.Elements.{All-nil, All-cons, All-map, All-filter}
-use Rattle.run_files.specs.ImageWords.{IsShortName, name_in, distinct, image_names, number_started, first_images}
+use Rattle.command_edge.specs.ImageWords.{IsShortName, name_in, distinct, image_names, number_started, first_images}
 use Rattle.run_opening.specs.declared.images.OpenedImage.{OpenedImage}
 
 mapped_at : {X Y : Type 0} (f : X → Y) (xs : List X) (k : ℕ) (d : X) → get_or (map f xs) k (f d) ≡ f (get_or xs k d)

@@ -6,14 +6,14 @@ use Rattle.io_edge.specs.Striping.{zero_needs, one_needs}
 use Rattle.aout_image.specs.Image.{loaded}
 use Rattle.vm_facts.specs.declared.event.Event.{Event}
 use Rattle.flat_state.specs.Flat.{NamedImage}
-use Rattle.run_files.specs.declared.answers.Unread.{Unread}
-use Rattle.run_files.specs.declared.answers.Unread.TheVariants as unreads
-use Rattle.run_files.specs.ImageWords.{image_names, first_images}
-use Rattle.command_ending.specs.declared.fault.Fault.{Fault}
-use Rattle.command_ending.specs.declared.fault.Fault.TheVariants as faults
-use Rattle.command_ending.specs.Named.{Why, AnswersNamed}
-use Rattle.command_ending.specs.Command.{Faults, NoFaults, Made}
-use Rattle.command_ending.proofs.Makings.{made_where, made_nothing}
+use Rattle.command_edge.specs.declared.answers.Unread.{Unread}
+use Rattle.command_edge.specs.declared.answers.Unread.TheVariants as unreads
+use Rattle.command_edge.specs.ImageWords.{image_names, first_images}
+use Rattle.command_edge.specs.declared.fault.Fault.{Fault}
+use Rattle.command_edge.specs.declared.fault.Fault.TheVariants as faults
+use Rattle.command_edge.specs.Named.{Why, AnswersNamed}
+use Rattle.command_edge.specs.Command.{Faults, NoFaults, Made}
+use Rattle.command_edge.proofs.Makings.{made_where, made_nothing}
 use Rattle.run_opening.specs.declared.images.OpenedImage.{OpenedImage}
 use Rattle.run_opening.specs.declared.opening.Opening.{Opening}
 use Rattle.run_opening.specs.Schedules.{schedule_found, HasEvents, EndsSchedule}

@@ -8,15 +8,15 @@ use Rattle.run_text.proofs.Fronts.{schedule_by_front}
 use Rattle.run_text.specs.Schedule.{IsReadSchedule}
 use Rattle.run_text.specs.declared.answers.Schedule.{Schedule}
 use Rattle.run_text.specs.declared.answers.Schedule.TheVariants.{Is, BadLine}
-use Rattle.run_files.specs.declared.answers.Unread.{Unread}
-use Rattle.run_files.specs.declared.answers.Unread.TheVariants as unreads
-use Rattle.run_files.specs.Answering.{Answers, CountsFault, IsOfAnyFile}
-use Rattle.run_files.specs.Told.{bytes_told, bytes_told_at}
-use Rattle.command_ending.specs.declared.fault.Fault.{Fault}
-use Rattle.command_ending.specs.declared.fault.Fault.TheVariants as faults
-use Rattle.command_ending.specs.Ending.{fault_of}
-use Rattle.command_ending.specs.Command.{Faults, NoFaults, Made}
-use Rattle.command_ending.proofs.Makings.{made_where, made_nothing}
+use Rattle.command_edge.specs.declared.answers.Unread.{Unread}
+use Rattle.command_edge.specs.declared.answers.Unread.TheVariants as unreads
+use Rattle.command_edge.specs.Answering.{Answers, CountsFault, IsOfAnyFile}
+use Rattle.command_edge.specs.Told.{bytes_told, bytes_told_at}
+use Rattle.command_edge.specs.declared.fault.Fault.{Fault}
+use Rattle.command_edge.specs.declared.fault.Fault.TheVariants as faults
+use Rattle.command_edge.specs.Ending.{fault_of}
+use Rattle.command_edge.specs.Command.{Faults, NoFaults, Made}
+use Rattle.command_edge.proofs.Makings.{made_where, made_nothing}
 use Rattle.run_opening.specs.Schedules.{schedule_bytes, schedule_found_at, schedule_found, EndsEvents, EndsSchedule}
 
 -- the first bytes of a file are as many as are read at most, or all of them

@@ -2,9 +2,9 @@
 use Rattle.std.specs.Prelude.{◌≡◌, ◌⊎◌, ℕ, List, [], ◌∷◌, Option, Result, Ok, Err, true, is_err}
 use Rattle.io_edge.specs.FileHolding.{NamedFile}
 use Rattle.io_edge.specs.FileRequests.{FileNotes}
-use Rattle.run_files.specs.Asked.{AsksFront}
-use Rattle.command_ending.specs.declared.fault.Fault.{Fault}
-use Rattle.command_ending.specs.declared.fault.Fault.TheVariants.{Absent, NotImage, BadSchedule, NoMemory, ShortDevice}
+use Rattle.command_edge.specs.Asked.{AsksFront}
+use Rattle.command_edge.specs.declared.fault.Fault.{Fault}
+use Rattle.command_edge.specs.declared.fault.Fault.TheVariants.{Absent, NotImage, BadSchedule, NoMemory, ShortDevice}
 use Rattle.run_opening.specs.Schedules.{schedule_bytes}
 use Rattle.run_opening.specs.declared.opening.Opening.{Opening}
 

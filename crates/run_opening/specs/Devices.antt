@@ -1,8 +1,8 @@
 -- The sizes of the two swap devices: device 0 is judged first.
 use Rattle.std.specs.Prelude.{ℕ, nat_lt, if◌then◌else◌, Option, Some, None}
 use Rattle.io_edge.specs.Striping.{zero_needs, one_needs}
-use Rattle.command_ending.specs.declared.fault.Fault.{Fault}
-use Rattle.command_ending.specs.declared.fault.Fault.TheVariants.{ShortDevice}
+use Rattle.command_edge.specs.declared.fault.Fault.{Fault}
+use Rattle.command_edge.specs.declared.fault.Fault.TheVariants.{ShortDevice}
 
 -- a device that has fewer blocks than a swap of so many needs of it
 abbrev pub device_fault : ℕ → ℕ → ℕ → Option Fault

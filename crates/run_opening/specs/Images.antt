@@ -4,10 +4,10 @@ use Rattle.io_edge.specs.FileHolding.{NamedFile, place_of, bytes_at}
 use Rattle.aout_image.specs.declared.Image.{Image}
 use Rattle.aout_image.specs.Image.{Loaded, loaded, judged_image}
 use Rattle.flat_state.specs.Flat.{NamedImage}
-use Rattle.run_files.specs.declared.answers.Unread.TheVariants as unreads
-use Rattle.command_ending.specs.declared.fault.Fault.{Fault}
-use Rattle.command_ending.specs.declared.fault.Fault.TheVariants.{Absent, NotImage, FileFault, NoMemory}
-use Rattle.command_ending.specs.Named.{Why, before}
+use Rattle.command_edge.specs.declared.answers.Unread.TheVariants as unreads
+use Rattle.command_edge.specs.declared.fault.Fault.{Fault}
+use Rattle.command_edge.specs.declared.fault.Fault.TheVariants.{Absent, NotImage, FileFault, NoMemory}
+use Rattle.command_edge.specs.Named.{Why, before}
 use Rattle.run_opening.specs.declared.images.OpenedImage.{OpenedImage}
 
 -- an image with its name, or why the file is none

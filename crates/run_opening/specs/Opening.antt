@@ -5,13 +5,13 @@ use Rattle.io_edge.specs.Count.{Rose}
 use Rattle.io_edge.specs.FileHolding.{NamedFile}
 use Rattle.vm_facts.specs.declared.event.Event.{Event}
 use Rattle.flat_state.specs.Flat.{NamedImage}
-use Rattle.run_files.specs.declared.answers.Unread.{Unread}
-use Rattle.run_files.specs.declared.answers.Unread.TheVariants as unreads
-use Rattle.run_files.specs.ImageWords.{image_names, first_images}
-use Rattle.command_ending.specs.declared.fault.Fault.{Fault}
-use Rattle.command_ending.specs.declared.fault.Fault.TheVariants.{Absent, NotImage, BadSchedule, FileFault, NoMemory, ShortDevice}
-use Rattle.command_ending.specs.Named.{Why}
-use Rattle.command_ending.specs.Command.{Faults, NoFaults, OpenFailed}
+use Rattle.command_edge.specs.declared.answers.Unread.{Unread}
+use Rattle.command_edge.specs.declared.answers.Unread.TheVariants as unreads
+use Rattle.command_edge.specs.ImageWords.{image_names, first_images}
+use Rattle.command_edge.specs.declared.fault.Fault.{Fault}
+use Rattle.command_edge.specs.declared.fault.Fault.TheVariants.{Absent, NotImage, BadSchedule, FileFault, NoMemory, ShortDevice}
+use Rattle.command_edge.specs.Named.{Why}
+use Rattle.command_edge.specs.Command.{Faults, NoFaults, OpenFailed}
 use Rattle.run_opening.specs.Schedules.{schedule_found, HasEvents, HasBadEvent}
 use Rattle.run_opening.specs.Images.{images_found, AreOpened}
 use Rattle.run_opening.specs.Devices.{device_fault}

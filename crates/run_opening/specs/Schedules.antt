@@ -2,14 +2,14 @@
 use Rattle.std.specs.Prelude.{◌≡◌, ◌≤◌, ℕ, List, length, Option, Some, None, Vec, Result, Ok, Err}
 use Rattle.io_edge.specs.FileHolding.{NamedFile, place_of, bytes_at}
 use Rattle.vm_facts.specs.declared.event.Event.{Event}
-use Rattle.run_files.specs.declared.answers.Unread.{Unread}
-use Rattle.run_files.specs.declared.answers.Unread.TheVariants as unreads
+use Rattle.command_edge.specs.declared.answers.Unread.{Unread}
+use Rattle.command_edge.specs.declared.answers.Unread.TheVariants as unreads
 use Rattle.run_text.specs.Lines.{lines_in, AreLines, IsFirstBad}
 use Rattle.run_text.specs.Schedule.{IsEventLine}
 use Rattle.run_text.specs.declared.limits.TheConstants.{SCHEDULE_LINES}
-use Rattle.command_ending.specs.declared.fault.Fault.{Fault}
-use Rattle.command_ending.specs.declared.fault.Fault.TheVariants.{Absent, FileFault, NoMemory, BadSchedule}
-use Rattle.command_ending.specs.Command.{Faults, NoFaults, OpenFailed}
+use Rattle.command_edge.specs.declared.fault.Fault.{Fault}
+use Rattle.command_edge.specs.declared.fault.Fault.TheVariants.{Absent, FileFault, NoMemory, BadSchedule}
+use Rattle.command_edge.specs.Command.{Faults, NoFaults, OpenFailed}
 use Rattle.run_opening.specs.declared.schedule.TheConstants.{SCHEDULE_BYTES}
 
 -- the most lines of a schedule

@@ -3,7 +3,7 @@ ghost use Rattle.std.specs.Prelude.{◌≡◌, ◌≤◌};
 ghost use Rattle.io_edge.specs.Striping.{most_blocks, zero_needs, one_needs};
 ghost use Rattle.run_opening.specs.Devices.{device_fault};
 
-use command_ending::Fault;
+use command_edge::Fault;
 
 // The blocks of device 0 that a swap of so many blocks needs.
 #[tactic(auto, unfolding(io_edge::specs::Striping::zero_needs, io_edge::specs::Striping::device_of, io_edge::specs::Striping::of_device))]

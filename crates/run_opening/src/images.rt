@@ -3,16 +3,15 @@ ghost use Rattle.std.specs.Prelude.{◌≡◌, List, Some, Err, true, is_err, Al
 ghost use Rattle.io_edge.specs.Calls.{KeepsFiles};
 ghost use Rattle.io_edge.specs.FileHolding.{NamedFile, HasRange};
 ghost use Rattle.aout_image.specs.Image.{IsSound, file_length_of};
-ghost use Rattle.command_ending.specs.Named.{AnswersNamed};
-ghost use Rattle.run_files.specs.Asked.{AsksFront};
+ghost use Rattle.command_edge.specs.Named.{AnswersNamed};
+ghost use Rattle.command_edge.specs.Asked.{AsksFront};
 ghost use Rattle.run_opening.specs.Asked.{header_bytes, IsAbout, AsksImages};
 ghost use Rattle.run_opening.specs.Images.{image_found, images_found, image_in, images_in, IsIn, IsImageFault};
 ghost use Rattle.run_opening.specs.Opening.{CountsOpen};
 
 use aout_image::Image;
-use command_ending::Fault;
+use command_edge::{Fault, open_image};
 use io_edge::Files;
-use run_files::open_image;
 use std::alloc::Global;
 
 /// An image that was found and judged, by its name.

@@ -4,9 +4,9 @@ ghost use Rattle.io_edge.specs.Calls.{KeepsFiles};
 ghost use Rattle.io_edge.specs.FileHolding.{NamedFile, HasRange};
 ghost use Rattle.io_edge.specs.Striping.{most_blocks};
 ghost use Rattle.aout_image.specs.Image.{IsSound, file_length_of};
-ghost use Rattle.run_files.specs.ImageWords.{IsShortName, name_in, image_names};
+ghost use Rattle.command_edge.specs.ImageWords.{IsShortName, name_in, image_names};
 ghost use Rattle.run_text.specs.Schedule.{IsInRanges};
-ghost use Rattle.command_ending.specs.Command.{Made};
+ghost use Rattle.command_edge.specs.Command.{Made};
 ghost use Rattle.run_opening.specs.Images.{images_found, images_in, IsIn};
 ghost use Rattle.run_opening.specs.Schedules.{schedule_lines};
 ghost use Rattle.run_opening.specs.Asked.{AsksOpening};
@@ -15,9 +15,8 @@ ghost use Rattle.run_opening.specs.Opening.{found_told, EndsOpening, CountsOpen}
 use crate::devices::device_fault;
 use crate::images::{OpenedImage, open_images};
 use crate::schedule::open_schedule;
-use command_ending::Fault;
+use command_edge::{Fault, first_images, image_names};
 use io_edge::Files;
-use run_files::{first_images, image_names};
 use std::alloc::Global;
 use vm_facts::Event;
 

@@ -3,14 +3,13 @@ ghost use Rattle.std.specs.Prelude.{◌≡◌, ◌≤◌, ℕ, List, Err, true, 
 ghost use Rattle.io_edge.specs.Calls.{KeepsFiles};
 ghost use Rattle.io_edge.specs.FileHolding.{NamedFile};
 ghost use Rattle.run_text.specs.Schedule.{IsInRanges};
-ghost use Rattle.command_ending.specs.Command.{Made};
+ghost use Rattle.command_edge.specs.Command.{Made};
 ghost use Rattle.run_opening.specs.Schedules.{schedule_lines, schedule_bytes, schedule_found, EndsEvents, EndsSchedule};
 ghost use Rattle.run_opening.specs.Opening.{CountsOpen};
-ghost use Rattle.run_files.specs.Asked.{AsksFront};
+ghost use Rattle.command_edge.specs.Asked.{AsksFront};
 
-use command_ending::Fault;
+use command_edge::{Fault, read_file};
 use io_edge::Files;
-use run_files::read_file;
 use run_text::{Schedule, read_schedule};
 use std::alloc::Global;
 use vm_facts::Event;

@@ -1,14 +1,6 @@
 pub use Rattle.fault_fill.specs.Moved
-pub use Rattle.economy_laws.specs.Stretch
-pub use Rattle.economy_laws.specs.Worth
-pub use Rattle.economy_laws.specs.Shown
 pub use Rattle.fault_fill.specs.LastMoves
 pub use Rattle.fault_fill.specs.Stops
-pub use Rattle.economy_laws.specs.Longwords
-pub use Rattle.economy_laws.specs.Machine
-pub use Rattle.economy_laws.specs.RunLawsRunning
-pub use Rattle.economy_laws.specs.Standing
-pub use Rattle.economy_laws.specs.Whole
 pub mod Leads
 pub mod Serving
 pub mod Filling
@@ -18,3 +10,7 @@ pub mod Stepping
 pub mod Acting
 pub mod Moving
 pub mod Swapping
+pub mod Owners
+pub mod Accounts
+pub mod Economy
+pub mod Journals

@@ -1,3 +1,4 @@
+pub mod Splits
 pub mod Listings
 pub mod Segments
 pub mod Padding

@@ -4,13 +4,13 @@ use Rattle.std.specs.Prelude.{IsTrue, is_ok}
 use Rattle.io_edge.specs.FileHolding.{NamedFile}
 use Rattle.aout_image.specs.declared.Kind.TheVariants.{Impure}
 use Rattle.aout_image.specs.declared.Image.{Image}
-use Rattle.run_files.specs.declared.answers.Unread.{Unread}
-use Rattle.run_files.specs.declared.answers.Unread.TheVariants as unreads
-use Rattle.run_files.specs.Answering.{Answers, CountsFault, CountsFaults, FailsInOrder, IsOfAnyFile}
-use Rattle.command_ending.specs.declared.fault.Fault.TheVariants.{Absent, NotImage, FileFault, NoMemory}
-use Rattle.command_ending.specs.Ending.{fault_of}
-use Rattle.command_ending.specs.Command.{Faults, FailedBehind, Made}
-use Rattle.command_ending.proofs.Makings.{made_where, made_by, made_nothing}
+use Rattle.command_edge.specs.declared.answers.Unread.{Unread}
+use Rattle.command_edge.specs.declared.answers.Unread.TheVariants as unreads
+use Rattle.command_edge.specs.Answering.{Answers, CountsFault, CountsFaults, FailsInOrder, IsOfAnyFile}
+use Rattle.command_edge.specs.declared.fault.Fault.TheVariants.{Absent, NotImage, FileFault, NoMemory}
+use Rattle.command_edge.specs.Ending.{fault_of}
+use Rattle.command_edge.specs.Command.{Faults, FailedBehind, Made}
+use Rattle.command_edge.proofs.Makings.{made_where, made_by, made_nothing}
 use Rattle.source_commands.specs.Command.{EndsAssembly, EndsListing}
 
 -- a source that wasn't read

@@ -3,12 +3,12 @@ use Rattle.std.specs.Prelude.{◌≡◌, ◌+◌, ℕ, List, Option, Result, Ok,
 use Rattle.io_edge.specs.FileHolding.{NamedFile}
 use Rattle.aout_image.specs.declared.Image.{Image}
 use Rattle.vax_asm.specs.Program.{IsProgramOf, IsFirstBad}
-use Rattle.run_files.specs.declared.answers.Unread.{Unread}
-use Rattle.run_files.specs.declared.answers.Unread.TheVariants as unreads
-use Rattle.run_files.specs.Told.{bytes_told, image_told}
-use Rattle.command_ending.specs.declared.fault.Fault.TheVariants.{Absent, NotImage, FileFault, NoMemory, BadSource}
-use Rattle.command_ending.specs.Ending.{Ending}
-use Rattle.command_ending.specs.Command.{Faults, NoFaults, OpenFailed, FailedBehind, Completes}
+use Rattle.command_edge.specs.declared.answers.Unread.{Unread}
+use Rattle.command_edge.specs.declared.answers.Unread.TheVariants as unreads
+use Rattle.command_edge.specs.Told.{bytes_told, image_told}
+use Rattle.command_edge.specs.declared.fault.Fault.TheVariants.{Absent, NotImage, FileFault, NoMemory, BadSource}
+use Rattle.command_edge.specs.Ending.{Ending}
+use Rattle.command_edge.specs.Command.{Faults, NoFaults, OpenFailed, FailedBehind, Completes}
 use Rattle.source_commands.specs.ProgramFile.{program_file}
 use Rattle.source_commands.specs.Listing.{code_at, IsListing}
 use Rattle.source_commands.specs.declared.source.TheConstants.{SOURCE_BYTES}

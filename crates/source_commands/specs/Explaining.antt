@@ -6,13 +6,13 @@ use Rattle.vax_asm.specs.Reasons.{ExplainsAs}
 use Rattle.asm_grammar.specs.Mnemonics.{same_text}
 use Rattle.asm_grammar.specs.Lines.{lines_in}
 use Rattle.asm_grammar.specs.declared.syntax.Label.{Label}
-use Rattle.asm_reasons.specs.Mistakes.{Why, CarriageReturn, Comment, Tab, Unprintable, SpaceBefore, SpaceBehind, NoLabel, AfterLabel, Capital, NoDirective, NoMnemonic, SpaceWithin, NoValue, WrongCount, Missing, NoTarget, RegisterName, NoSize, NoLiteral, ValueAlone, NoOperand, Other, why_outside, wide_literal_in, text_of_line}
+use Rattle.source_commands.specs.Mistakes.{Why, CarriageReturn, Comment, Tab, Unprintable, SpaceBefore, SpaceBehind, NoLabel, AfterLabel, Capital, NoDirective, NoMnemonic, SpaceWithin, NoValue, WrongCount, Missing, NoTarget, RegisterName, NoSize, NoLiteral, ValueAlone, NoOperand, Other, why_outside, wide_literal_in, text_of_line}
 use Rattle.vax_asm.specs.declared.answers.Reason.{Reason}
 use Rattle.vax_asm.specs.declared.answers.Reason.TheVariants.{NoLineFeed, TooManyLines, LineTooLong, NotStatement, LabelTwice, UnknownLabel, ValueOutOfRange, BranchOutOfRange, OperandRefused, SecondBss, ProgramTooLong}
 use Rattle.vax_asm.specs.declared.answers.BadLine.{BadLine}
-use Rattle.run_files.specs.declared.answers.Unread.{Unread}
-use Rattle.run_files.specs.declared.answers.Unread.TheVariants.{Absent, NotImage, FileFault, NoMemory}
-use Rattle.run_files.specs.Told.{bytes_told}
+use Rattle.command_edge.specs.declared.answers.Unread.{Unread}
+use Rattle.command_edge.specs.declared.answers.Unread.TheVariants.{Absent, NotImage, FileFault, NoMemory}
+use Rattle.command_edge.specs.Told.{bytes_told}
 use Rattle.source_commands.specs.Command.{source_bytes}
 
 -- a label between two texts

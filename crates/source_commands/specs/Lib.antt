@@ -1,3 +1,4 @@
+pub mod Mistakes
 pub mod ProgramFile
 pub mod Listing
 pub mod Command

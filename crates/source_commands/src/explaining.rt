@@ -1,17 +1,18 @@
 //! The line that tells why a source is bad: the line's number, the mistake, and where it stands.
 ghost use Rattle.std.specs.Prelude.{◌≡◌, ◌++◌, IfOk, IfErr, OnOk, option_map};
 ghost use Rattle.io_edge.specs.Calls.{KeepsFiles};
-ghost use Rattle.run_files.specs.Answering.{CountsFault};
+ghost use Rattle.command_edge.specs.Answering.{CountsFault};
 ghost use Rattle.vax_asm.specs.declared.answers.Reason.TheVariants.{ValueOutOfRange};
-ghost use Rattle.asm_reasons.specs.Mistakes.{why_of, WrongCount, RegisterName, NoSize, NoLiteral, ValueAlone, Other};
+ghost use Rattle.source_commands.specs.Mistakes.{why_of, WrongCount, RegisterName, NoSize, NoLiteral, ValueAlone, Other};
 ghost use Rattle.source_commands.specs.Explaining.{around_label, count_text, taken_text, why_text, advice_text, reason_text, explanation, ExplainsSource, LacksSource};
 
+use crate::lines::{mistake_in, text_of_line};
+use crate::mistakes::Mistake;
+use crate::operands::wide_literal_in;
 use crate::source::SOURCE_BYTES;
-use asm_reasons::{Mistake, mistake_in, text_of_line, wide_literal_in};
-use command_ending::put_number;
+use command_edge::{Unread, put_number, read_file};
 use io_edge::Files;
 use itoa::Buffer;
-use run_files::{Unread, read_file};
 use std::alloc::{AllocError, Global};
 use vax_asm::{BadLine, Label, Reason, explain};
 

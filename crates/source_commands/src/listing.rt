@@ -2,17 +2,16 @@
 ghost use Rattle.std.specs.Prelude.{◌≡◌, ◌≤◌, ◌<◌, ◌+◌, ◌^◌, ◌/◌, Bool, length, min};
 ghost use Rattle.io_edge.specs.Calls.{KeepsFiles};
 ghost use Rattle.aout_image.specs.Image.{IsSound, file_length_of, pages_of, offset_of, given_of};
-ghost use Rattle.run_files.specs.Told.{image_told};
-ghost use Rattle.command_ending.specs.Ending.{ending_of};
-ghost use Rattle.command_ending.specs.Command.{EndCounted, Made};
+ghost use Rattle.command_edge.specs.Told.{image_told};
+ghost use Rattle.command_edge.specs.Ending.{ending_of};
+ghost use Rattle.command_edge.specs.Command.{EndCounted, Made};
 ghost use Rattle.source_commands.specs.Listing.{code_at};
 ghost use Rattle.source_commands.specs.Command.{Lists, EndsListing};
 
 use crate::text::listing_of;
 use aout_image::Image;
-use command_ending::{Fault, write_ending};
+use command_edge::{Fault, load_image, write_ending};
 use io_edge::{Files, Sink};
-use run_files::load_image;
 use std::alloc::Global;
 
 // Where the byte of a segment stands in the file.

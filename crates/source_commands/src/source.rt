@@ -2,15 +2,14 @@
 ghost use Rattle.std.specs.Prelude.{◌≡◌};
 ghost use Rattle.io_edge.specs.Calls.{KeepsFiles};
 ghost use Rattle.io_edge.specs.FileHolding.{NamedFile};
-ghost use Rattle.run_files.specs.Told.{bytes_told};
-ghost use Rattle.command_ending.specs.Ending.{ending_of};
-ghost use Rattle.command_ending.specs.Command.{EndCounted, Made};
+ghost use Rattle.command_edge.specs.Told.{bytes_told};
+ghost use Rattle.command_edge.specs.Ending.{ending_of};
+ghost use Rattle.command_edge.specs.Command.{EndCounted, Made};
 ghost use Rattle.source_commands.specs.Command.{source_bytes, Assembles, EndsAssembly};
 
 use crate::program_file::file_of;
-use command_ending::{Fault, write_ending};
+use command_edge::{Fault, read_file, write_ending};
 use io_edge::{Files, Sink};
-use run_files::read_file;
 use std::alloc::Global;
 use vax_asm::{Assembled, assemble};
 

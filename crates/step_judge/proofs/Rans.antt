@@ -34,7 +34,7 @@ use Rattle.run_units.specs.Serving.{At}
 use Rattle.run_units.specs.Touching.{RunsInSpace, WantsPage}
 use Rattle.run_units.proofs.Instructing.{miss_wanted}
 use Rattle.run_units.proofs.Stepping.{step_known}
-use Rattle.touched_pages.proofs.Running.{frames_cover}
+use Rattle.proc_run.proofs.RunsTouching.{frames_cover}
 use Rattle.step_units.proofs.Begun.{whole_due}
 use Rattle.paged_model.specs.Steps.{other_begun}
 use Rattle.paged_laws.proofs.Acted.{own_awaits}

@@ -36,7 +36,7 @@ use Rattle.run_model.specs.Wanted.{wanted}
 use Rattle.run_laws.specs.Standing.{Placed}
 use Rattle.run_units.specs.Leads.{MadeAs}
 use Rattle.run_units.specs.Touching.{RunsInSpace}
-use Rattle.touched_pages.specs.Touching.{RunsWith}
+use Rattle.proc_run.specs.Touching.{RunsWith}
 use Rattle.step_units.specs.Stepped.{AtSome, LeadsFrom}
 use Rattle.step_units.proofs.Tables.{regs_is, is_kept}
 use Rattle.paged_model.specs.declared.reason.Reason.{Reason}

@@ -4,7 +4,7 @@ pub use Rattle.proc_run.specs.Rests
 pub use Rattle.proc_run.specs.Running
 pub use Rattle.step_units.specs.Rests as StepUnitsRests
 pub use Rattle.step_units.specs.Stepped
-pub use Rattle.touched_pages.specs.Touching
+pub use Rattle.proc_run.specs.Touching
 pub use Rattle.step_units.specs.LastMoves
 pub use Rattle.step_units.specs.Reading
 pub use Rattle.step_units.specs.Callers

@@ -15,4 +15,3 @@ mod telling;
 pub use proc_run;
 pub use ready::stuck;
 pub use stepping::judge_step;
-pub use touched_pages;

@@ -25,9 +25,8 @@ use io_edge::{Files, SwapDev};
 use machine_state::Machine;
 use move_judge::looking::state;
 use paged_model::Reason;
-use proc_run::{Begun, DecodeCache, attempt_cached, completes, ready_regs};
+use proc_run::{Begun, DecodeCache, attempt_cached, completes, ready_regs, touched_and_wanted};
 use std::alloc::Global;
-use touched_pages::touched_and_wanted;
 use user_vax::Stepped;
 use vm_facts::{Entry, NoMemory, Page, Regs};
 

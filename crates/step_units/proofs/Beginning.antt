@@ -15,7 +15,7 @@ use Rattle.swapper.specs.Stops.{StopsBefore}
 use Rattle.run_model.specs.State.{State}
 use Rattle.run_model.specs.After.{after, mark_of_line}
 use Rattle.run_model.specs.Next.{next_unit}
-use Rattle.run_units.specs.Machine.{unit_swap}
+use Rattle.run_laws.specs.Machine.{unit_swap}
 use Rattle.run_units.specs.Leads.{MadeAs, Leads}
 use Rattle.run_units.proofs.Units.{none_leads, first_leads}
 use Rattle.run_units.proofs.Swapping.{note_made, line_comes, turn_comes}

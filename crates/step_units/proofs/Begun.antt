@@ -20,7 +20,7 @@ use Rattle.flat_model.specs.Run.{step_at, is_refused, due, behind_first, IsBetwe
 use Rattle.flat_model.specs.Asked.{wanted_if, asks_by, asks}
 use Rattle.run_model.specs.State.{State}
 use Rattle.run_model.specs.Act.{act, loses_pages, loses_in, loses_if, settled, step_loses, must_settle}
-use Rattle.run_units.proofs.Flows.{on_steps}
+use Rattle.run_laws.proofs.Flows.{on_steps}
 use Rattle.run_units.specs.Serving.{At}
 use Rattle.run_units.specs.Touching.{RunsInSpace}
 use Rattle.run_units.proofs.Acting.{step_begins, step_refused, refused_comes, reply_comes, between_refused}

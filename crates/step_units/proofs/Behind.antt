@@ -27,7 +27,7 @@ use Rattle.run_model.specs.After.{after}
 use Rattle.run_model.specs.Next.{goes_on, turn_instructions}
 use Rattle.run_model.specs.Kinds.{GoesOn, ProcessRuns}
 use Rattle.run_model.proofs.After.{after_count}
-use Rattle.run_units.specs.Machine.{EndsStep}
+use Rattle.run_laws.specs.Machine.{EndsStep}
 use Rattle.run_units.specs.Touching.{RunsInSpace}
 
 -- The end of a step.

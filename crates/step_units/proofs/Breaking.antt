@@ -27,8 +27,8 @@ use Rattle.machine_state.specs.Settled.{StopsSettling}
 use Rattle.machine_state.specs.Applying.{facts_named}
 use Rattle.machine_state.specs.UserMemory.{kernel_answers}
 use Rattle.swapper.specs.Stops.{StopsBefore}
-use Rattle.run_units.specs.Whole.{IsSized, HasSize, AllSized}
-use Rattle.run_units.proofs.FlatLawsAsking.{own_space}
+use Rattle.run_laws.specs.Whole.{IsSized, HasSize, AllSized}
+use Rattle.run_laws.proofs.FlatLawsAsking.{own_space}
 use Rattle.flat_model.specs.declared.calls.Reply.{Reply}
 use Rattle.flat_model.specs.declared.calls.Reply.TheVariants.{Fails, Does}
 use Rattle.flat_model.specs.declared.calls.SystemCall.TheVariants as system_calls
@@ -44,8 +44,8 @@ use Rattle.proc_calls.proofs.Sizes.{replies as sized_reply, fails as sized_failu
 use Rattle.proc_calls.proofs.Breaks.{break_flat}
 use Rattle.run_model.specs.State.{State}
 use Rattle.run_model.specs.Act.{loses_pages}
-use Rattle.run_units.specs.Standing.{IsText, HasText}
-use Rattle.run_units.proofs.RunLawsTouching.{found_process}
+use Rattle.run_laws.specs.Standing.{IsText, HasText}
+use Rattle.run_laws.proofs.Touching.{found_process}
 use Rattle.run_units.specs.Settling.{IsLeaving}
 use Rattle.run_units.specs.Touching.{IsCalledFor}
 use Rattle.run_units.proofs.Stepping.{growth_counts, none_asked}

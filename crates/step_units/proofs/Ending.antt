@@ -42,7 +42,7 @@ use Rattle.flat_model.specs.Calls.{argument, reply_of, exit_reply}
 use Rattle.machine_state.specs.UserMemory.{kernel_answers}
 use Rattle.swapper.specs.Stops.{StopsBefore}
 use Rattle.proc_calls.specs.declared.replying.Called.{Called}
-use Rattle.run_units.proofs.Computations.{AllGives, gives_any, run_gives}
+use Rattle.run_laws.proofs.Computations.{AllGives, gives_any, run_gives}
 use Rattle.run_units.proofs.Acting.{between_refused}
 use Rattle.step_units.specs.Machines.{MachineAt, RunsOn, MakesCall}
 use Rattle.step_units.specs.Stepped.{StepLeads, StopLeads, CallLeads}

@@ -34,8 +34,8 @@ use Rattle.run_model.specs.After.{after}
 use Rattle.run_model.specs.Act.{act, must_settle}
 use Rattle.run_model.specs.Next.{next_unit}
 use Rattle.run_model.specs.Kinds.{ProcessRuns}
-use Rattle.run_units.specs.Machine.{unit_swap, Completes, EndsStep}
-use Rattle.run_units.proofs.Flows.{runs_next}
+use Rattle.run_laws.specs.Machine.{unit_swap, Completes, EndsStep}
+use Rattle.run_laws.proofs.Flows.{runs_next}
 use Rattle.run_units.specs.Leads.{MadeAs, Leads}
 use Rattle.run_units.specs.Serving.{At}
 use Rattle.run_units.specs.Stepping.{with_holdings, PassesNone}

@@ -39,7 +39,7 @@ use Rattle.proc_calls.specs.Leaving.{HasLeft, StopsAlive}
 use Rattle.proc_calls.specs.Making.{without_pieces}
 use Rattle.proc_calls.specs.Starting.{image_found, HasStarted, StartsBy, ExecComes, StopsFinding, StopsExec}
 use Rattle.proc_calls.proofs.Starts.{is_ready}
-use Rattle.run_units.proofs.Computations.{AllGives, gives_any, run_gives}
+use Rattle.run_laws.proofs.Computations.{AllGives, gives_any, run_gives}
 use Rattle.run_units.specs.Touching.{IsCalledFor}
 use Rattle.step_units.specs.Stepped.{StopLeads, StepLeads, CallLeads}
 use Rattle.step_units.proofs.Filling.{LeadsTo, forced_fill, filling_stops}

@@ -25,7 +25,7 @@ use Rattle.flat_model.specs.Asked.{asks}
 use Rattle.flat_model.specs.Calls.{stack_pages_of}
 use Rattle.flat_model.specs.Run.{step_at, is_refused}
 use Rattle.flat_model.specs.Step.{Step, flat_step, step_of, grown_step, data_pages_of, pages_down_to}
-use Rattle.run_units.proofs.FlatLawsAsking.{step_same}
+use Rattle.run_laws.proofs.FlatLawsAsking.{step_same}
 use Rattle.page_model.specs.Placement.{image_of}
 use Rattle.page_model.specs.Place.{facts_of, data_count}
 use Rattle.kernel_model.specs.Asks.{asked}
@@ -41,8 +41,8 @@ use Rattle.proc_calls.specs.FaultFillAccessAccess.TheVariants as accesses
 use Rattle.run_model.specs.Act.{loses_pages, loses_in, loses_if, settled, must_settle}
 use Rattle.run_model.specs.Next.{next_unit}
 use Rattle.run_model.specs.State.{State}
-use Rattle.run_units.proofs.Flows.{on_steps, runs_next}
-use Rattle.run_units.proofs.Growing.{below_spot, spot_below}
+use Rattle.run_laws.proofs.Flows.{on_steps, runs_next}
+use Rattle.economy_laws.proofs.Growing.{below_spot, spot_below}
 use Rattle.run_units.specs.Serving.{At}
 use Rattle.run_units.specs.Touching.{RunsInSpace, IsReadyFor, IsWhole}
 use Rattle.run_units.proofs.Acting.{step_begins, step_refused, between_refused}

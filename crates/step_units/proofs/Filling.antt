@@ -22,9 +22,9 @@ use Rattle.run_model.specs.Wanted.{locked as locked_now}
 use Rattle.run_model.specs.After.{after, place_at}
 use Rattle.run_model.specs.Next.{next_unit}
 use Rattle.machine_state.proofs.Copying.{head_is}
-use Rattle.run_units.specs.Machine.{unit_swap}
-use Rattle.run_units.proofs.Marks.{IsFree, due_free}
-use Rattle.run_units.proofs.Allowed.{first_after}
+use Rattle.run_laws.specs.Machine.{unit_swap}
+use Rattle.run_laws.proofs.Marks.{IsFree, due_free}
+use Rattle.run_laws.proofs.Allowed.{first_after}
 use Rattle.run_units.specs.Leads.{MadeAs, Leads}
 use Rattle.run_units.specs.Serving.{SameBut, At}
 use Rattle.run_units.specs.Filling.{FillsFirst, LeadsDue}

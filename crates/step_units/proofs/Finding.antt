@@ -17,7 +17,7 @@ use Rattle.swapper.proofs.HeldSpaces.{holders_have_spaces}
 use Rattle.run_model.specs.declared.mark.Mark.TheVariants as marks
 use Rattle.run_model.specs.State.{State}
 use Rattle.run_model.specs.After.{interrupt_mark}
-use Rattle.run_units.specs.Standing.{MarkStands}
+use Rattle.run_laws.specs.Standing.{MarkStands}
 use Rattle.run_units.specs.Serving.{At}
 
 -- A transfer.

@@ -21,7 +21,7 @@ use Rattle.flat_state.specs.Space.{Space}
 use Rattle.flat_model.specs.Run.{Point, step_at, is_refused, due_at, behind, IsBetween}
 use Rattle.flat_model.specs.Step.{Step, step_of, ended_step, data_pages_of, pages_down_to}
 use Rattle.flat_model.specs.Touched.{touched}
-use Rattle.run_units.proofs.FlatLawsAsking.{own_space}
+use Rattle.run_laws.proofs.FlatLawsAsking.{own_space}
 use Rattle.page_model.specs.Pages.{numbered}
 use Rattle.page_model.specs.Placement.{Placement, space_number}
 use Rattle.page_model.specs.Place.{facts_of, data_count}
@@ -42,12 +42,11 @@ use Rattle.run_model.specs.State.{State}
 use Rattle.run_model.specs.Wanted.{running, touched_next, wanted, AllValid}
 use Rattle.run_model.specs.declared.mark.Mark.{Mark}
 use Rattle.run_model.specs.declared.mark.Mark.TheVariants as marks
-use Rattle.economy_laws.proofs.Growth.{grown_process}
-use Rattle.run_units.proofs.Flows.{on_running, on_steps}
-use Rattle.run_units.proofs.Growing.{all_grown}
-use Rattle.run_units.proofs.Growth.{growth_touches}
-use Rattle.run_units.proofs.Left.{next_on}
-use Rattle.run_units.specs.Stretch.{TouchesMore as Touches}
+use Rattle.economy_laws.proofs.Growth.{grown_process, growth_touches}
+use Rattle.run_laws.proofs.Flows.{on_running, on_steps}
+use Rattle.economy_laws.proofs.Growing.{all_grown}
+use Rattle.economy_laws.proofs.Left.{next_on}
+use Rattle.economy_laws.specs.Stretch.{TouchesMore as Touches}
 use Rattle.run_units.specs.Leads.{MadeAs, Leads}
 use Rattle.run_units.specs.Serving.{At}
 use Rattle.run_units.specs.Stepping.{with_holdings, growth_to}
@@ -161,7 +160,7 @@ pub record GrownBefore (A : Inputs) (s : State) (old between : Standing) (holds 
   pub entry : Entry
   pub next : next_unit A s ≡ Some entry
   pub made : MadeAs A s old.kernel image entry between.kernel (Some image)
-  pub plain : Rattle.run_units.specs.Machine.unit_swap A old.kernel image entry ≡ image
+  pub plain : Rattle.run_laws.specs.Machine.unit_swap A old.kernel image entry ≡ image
   pub waits : WaitsFor A (after A s entry) between holds image pid now before q
   pub count : (after A s entry).count ≡ s.count
   pub lines : (after A s entry).lines ≡ s.lines

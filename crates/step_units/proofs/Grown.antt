@@ -23,15 +23,14 @@ use Rattle.flat_state.specs.Change.{resized_bytes, resized}
 use Rattle.flat_state.specs.Flat.{Holding, Holds, Process, FlatState, Inputs, holds_space, is_ready, process_of}
 use Rattle.flat_state.specs.Space.{Space, stack_top, stack_reach, stack_index, spot_by, spot_at, address_in, byte_at, may_write_at, answers_of}
 use Rattle.flat_state.proofs.SpaceLaws.{length-resized_bytes}
-use Rattle.run_units.proofs.Shown.{is_touched}
+use Rattle.run_laws.proofs.Shown.{is_touched}
 use Rattle.flat_model.specs.Instruction.{instruction_in}
 use Rattle.flat_model.specs.Step.{data_pages_of, pages_down_to}
 use Rattle.flat_model.specs.Touched.{page_read, page_tested, page_of_access, accesses_after, distinct, touched}
 use Rattle.kernel_model.specs.Coupled.{Fits}
 use Rattle.page_model.specs.Pages.{SpacePages}
-use Rattle.run_units.proofs.Extending.{distinct_more, Bigger, Reached, reached, grown_page}
-use Rattle.run_units.proofs.Growing.{below_spot}
-use Rattle.economy_laws.proofs.Extending.{kept_pages, kept_unseen}
+use Rattle.economy_laws.proofs.Extending.{distinct_more, Bigger, Reached, reached, grown_page, kept_pages, kept_unseen}
+use Rattle.economy_laws.proofs.Growing.{below_spot}
 use Rattle.economy_laws.proofs.Growth.{refused_accesses, all_accesses}
 
 -- The byte for which the stack grew.

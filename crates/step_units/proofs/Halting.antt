@@ -21,7 +21,7 @@ use Rattle.run_model.specs.State.{State}
 use Rattle.run_model.specs.Wanted.{wanted}
 use Rattle.run_model.specs.Act.{settled, settled_in, settled_if, step_loses, must_refuse, must_settle}
 use Rattle.run_model.specs.Next.{next_unit}
-use Rattle.run_units.proofs.Flows.{on_steps, runs_next}
+use Rattle.run_laws.proofs.Flows.{on_steps, runs_next}
 use Rattle.run_units.specs.Serving.{At}
 use Rattle.run_units.specs.Touching.{RunsInSpace}
 use Rattle.run_units.proofs.Units.{none_leads}

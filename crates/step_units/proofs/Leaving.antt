@@ -40,8 +40,8 @@ use Rattle.swap_book.specs.Placing.{place_all}
 use Rattle.page_model.specs.Place.{facts_of}
 use Rattle.kernel_model.specs.Asks.{asked}
 use Rattle.kernel_model.specs.ChangeStep.{change_step}
-use Rattle.run_units.specs.Machine.{Completes}
-use Rattle.run_units.proofs.Flows.{on_steps}
+use Rattle.run_laws.specs.Machine.{Completes}
+use Rattle.run_laws.proofs.Flows.{on_steps}
 use Rattle.run_units.proofs.Stepping.{returning_made}
 use Rattle.step_units.specs.Machines.{MachineAt}
 use Rattle.step_units.specs.Stepped.{StopLeads}

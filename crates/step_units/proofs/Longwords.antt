@@ -5,9 +5,9 @@ use Rattle.vm_facts.specs.declared.entry.Entry.{Entry}
 use Rattle.flat_state.specs.Flat.{FlatState, Inputs}
 use Rattle.kernel_model.specs.Kernel.{Kernel}
 use Rattle.flat_model.specs.Run.{Point, process_of_entry, flat_entry, flat_entry_by}
-use Rattle.run_units.specs.Longwords.{ProcessesFit, AllImages}
-use Rattle.run_units.proofs.Replying.{step_regs}
-use Rattle.run_units.proofs.Runs.{entry_next}
+use Rattle.run_laws.specs.Longwords.{ProcessesFit, AllImages}
+use Rattle.run_laws.proofs.Replying.{step_regs}
+use Rattle.run_laws.proofs.Runs.{entry_next}
 use Rattle.flat_model.proofs.Coming.{entry_keeps}
 use Rattle.run_model.specs.State.{State}
 use Rattle.run_model.specs.After.{after}
@@ -16,11 +16,11 @@ use Rattle.run_model.specs.Act.{IsNext}
 use Rattle.run_model.proofs.Acting.{next_flat}
 use Rattle.run_model.proofs.NextUnits.{kind_of}
 use Rattle.run_model.proofs.After.{after_count}
-use Rattle.run_units.specs.Machine.{MakesSwap, unit_step, unit_swap}
-use Rattle.run_units.specs.RunLawsRunning.{IsRun}
-use Rattle.run_units.proofs.Flows.{next_or, plain_point}
-use Rattle.run_units.proofs.Running.{run_on}
-use Rattle.run_units.proofs.Execs.{execs_fit}
+use Rattle.run_laws.specs.Machine.{MakesSwap, unit_step, unit_swap}
+use Rattle.run_laws.specs.Running.{IsRun}
+use Rattle.run_laws.proofs.Flows.{next_or, plain_point}
+use Rattle.run_laws.proofs.Running.{run_on}
+use Rattle.run_laws.proofs.Execs.{execs_fit}
 use Rattle.kernel_model.specs.Start.{ImagesFit}
 use Rattle.run_units.specs.Leads.{Leads}
 use Rattle.run_units.specs.Serving.{At}

@@ -32,7 +32,7 @@ use Rattle.flat_model.specs.declared.calls.SystemCall.{SystemCall}
 use Rattle.flat_model.specs.Calls.{or_fault, replied}
 use Rattle.flat_model.specs.Step.{Step, flat_step, call_entry, replied_step}
 use Rattle.flat_model.specs.Run.{step_at, is_refused, due, due_at}
-use Rattle.run_units.specs.Shown.{IsCallOf}
+use Rattle.run_laws.specs.Shown.{IsCallOf}
 use Rattle.run_model.specs.State.{State}
 use Rattle.run_model.specs.Wanted.{wanted}
 use Rattle.run_model.specs.After.{after}

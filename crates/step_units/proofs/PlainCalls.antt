@@ -28,7 +28,7 @@ use Rattle.proc_calls.specs.Callers.{parent_of}
 use Rattle.proc_calls.specs.Waiting.{wait_by_records, wait_answer}
 use Rattle.proc_calls.specs.Writing.{IsWriteReply, StopsOut, reply_bytes}
 use Rattle.proc_calls.proofs.Writes.{may_write}
-use Rattle.run_units.specs.Shown.{IsCallOf}
+use Rattle.run_laws.specs.Shown.{IsCallOf}
 use Rattle.run_model.specs.State.{State}
 use Rattle.run_model.specs.After.{after}
 use Rattle.run_units.specs.Touching.{IsCalledFor}

@@ -33,7 +33,7 @@ use Rattle.swapper.specs.declared.Turned.TheVariants as turns
 use Rattle.swapper.specs.Runners.{runners_of, choice_of}
 use Rattle.swapper.specs.Putting.{HoldsThere, PutOut, putting_out}
 use Rattle.swapper.specs.Turns.{Turns, StopsTurning}
-use Rattle.run_units.specs.Longwords.{ProcessesFit}
+use Rattle.run_laws.specs.Longwords.{ProcessesFit}
 use Rattle.run_model.specs.declared.mark.Mark.{Mark}
 use Rattle.run_model.specs.declared.mark.Mark.TheVariants as marks
 use Rattle.run_model.specs.State.{State, runners}

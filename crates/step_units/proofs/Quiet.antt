@@ -27,7 +27,7 @@ use Rattle.flat_model.specs.Step.{Step, reply_asked, replied_step}
 use Rattle.flat_model.specs.Run.{step_at}
 use Rattle.proc_calls.specs.declared.replying.Called.{Called}
 use Rattle.proc_calls.specs.Answered.{Answered, Replied, Comes, StopsRefused}
-use Rattle.run_units.specs.Shown.{IsCallOf}
+use Rattle.run_laws.specs.Shown.{IsCallOf}
 use Rattle.run_model.specs.State.{State}
 use Rattle.run_model.specs.Act.{loses_pages}
 use Rattle.run_units.specs.Touching.{IsCalledFor, WantsPage}

@@ -29,7 +29,7 @@ use Rattle.flat_model.specs.declared.calls.SystemCall.{SystemCall}
 use Rattle.flat_model.specs.Calls.{no_memory, or_fault, replied, refused_reply, unless_refused, wants_space}
 use Rattle.flat_model.specs.Step.{Step, call_entry, replied_step}
 use Rattle.flat_model.specs.Run.{step_at, due, due_at}
-use Rattle.run_units.specs.Shown.{IsCallOf}
+use Rattle.run_laws.specs.Shown.{IsCallOf}
 use Rattle.run_model.specs.State.{State}
 use Rattle.run_model.specs.After.{after}
 use Rattle.run_model.specs.Act.{act}

@@ -30,11 +30,11 @@ use Rattle.flat_model.specs.declared.calls.SystemCall.{SystemCall}
 use Rattle.flat_model.specs.Calls.{reply_of, or_fault, refused_reply, replied}
 use Rattle.flat_model.specs.Step.{Step, call_entry, reply_asked, replied_step, written_process}
 use Rattle.flat_model.specs.Run.{step_at, IsBetween}
-use Rattle.run_units.specs.Shown.{IsCallOf}
+use Rattle.run_laws.specs.Shown.{IsCallOf}
 use Rattle.run_model.specs.State.{State}
 use Rattle.run_model.specs.Act.{loses_pages, must_settle}
 use Rattle.run_model.specs.Wanted.{wanted}
-use Rattle.run_units.proofs.Written.{no_writes}
+use Rattle.run_laws.proofs.Written.{no_writes}
 use Rattle.run_units.specs.Stepping.{with_holdings, PassesNone}
 use Rattle.run_units.specs.Touching.{RunsInSpace, IsAnswered, IsCalledFor}
 use Rattle.run_units.proofs.Instructing.{call_ready}

@@ -20,14 +20,14 @@ use Rattle.run_model.specs.Wanted.{locked}
 use Rattle.run_model.specs.After.{after, place_at, place_behind}
 use Rattle.run_model.specs.Snapshot.{pages_written}
 use Rattle.run_model.specs.Next.{fill_unit, next_unit}
-use Rattle.run_units.specs.Machine.{MakesSwap, unit_step, unit_swap}
-use Rattle.run_units.proofs.Flows.{Acted, Settles, Refuses, Steps, acted, steps_own}
-use Rattle.run_units.proofs.Outs.{change_out}
-use Rattle.run_units.proofs.Paging.{Leaver, entry_out}
-use Rattle.run_units.proofs.Plain.{paging_stays, serve_paging, zero_paging, copy_paging}
-use Rattle.run_units.proofs.RunLawsStepping.{touched_out}
-use Rattle.run_units.specs.Stretch.{begins_stretch, IsClosing}
-use Rattle.run_units.proofs.Closing.{Closes, Fill, Bring, CopyIt, Serve, Act, In, closes, stays_closing, no_event}
+use Rattle.run_laws.specs.Machine.{MakesSwap, unit_step, unit_swap}
+use Rattle.run_laws.proofs.Flows.{Acted, Settles, Refuses, Steps, acted, steps_own}
+use Rattle.run_laws.proofs.Outs.{change_out}
+use Rattle.run_laws.proofs.Paging.{Leaver, entry_out}
+use Rattle.run_laws.proofs.Plain.{paging_stays, serve_paging, zero_paging, copy_paging}
+use Rattle.run_laws.proofs.Stepping.{touched_out}
+use Rattle.economy_laws.specs.Stretch.{begins_stretch, IsClosing}
+use Rattle.economy_laws.proofs.Closing.{Closes, Fill, Bring, CopyIt, Serve, Act, In, closes, stays_closing, no_event}
 use Rattle.run_units.specs.Leads.{Leads}
 use Rattle.run_units.proofs.Serving.{not_out}
 

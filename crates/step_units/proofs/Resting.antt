@@ -1,6 +1,5 @@
 -- What is left of a step after the entry that began it, by what the instruction of its process comes to over the frames.
-use Rattle.std.proofs.Common.{◌≡◌, ◌⊎◌, inl, inr, ℕ, ◌≤◌, ◌==◌, ◌*◌, ◌%◌, nat_lt, nat_le, Bool, true, false, List}
-use Rattle.std.proofs.Common.{[], ◌∷◌, find, length, Option, Some, None, Result, Ok, Err, ℤ, refl, sym, ap, ◌∙◌, subst}
+use Rattle.std.proofs.Common.{◌≡◌, ◌⊎◌, inl, inr, ℕ, ◌≤◌, ◌==◌, ◌*◌, ◌%◌, nat_lt, nat_le, Bool, true, false, List, [], ◌∷◌, find, length, Option, Some, None, Result, Ok, Err, ℤ, refl, sym, ap, ◌∙◌, subst}
 use Rattle.std.specs.Prelude.{if◌then◌else◌}
 use Rattle.vm_facts.specs.SwapImages.{SwapImage}
 use Rattle.vm_facts.specs.Answers.{Answers}
@@ -23,8 +22,7 @@ use Rattle.flat_model.specs.declared.calls.Reply.{Reply}
 use Rattle.flat_model.specs.declared.calls.Reply.TheVariants.{Fails, Does, Writes, Waits, Exits}
 use Rattle.flat_model.specs.declared.calls.SystemCall.{SystemCall}
 use Rattle.flat_model.specs.declared.calls.SystemCall.TheVariants as system_calls
-use Rattle.flat_model.specs.Calls.{argument, exit_reply, child_by, break_by, break_reply, pages_up_to, stack_pages_of, data_limit, process_limit, write_limit}
-use Rattle.flat_model.specs.Calls.{wait_by, execve_reply, reply_of, call_of, or_fault, refused_reply, unless_refused, wants_space, no_memory, replied}
+use Rattle.flat_model.specs.Calls.{argument, exit_reply, child_by, break_by, break_reply, pages_up_to, stack_pages_of, data_limit, process_limit, write_limit, wait_by, execve_reply, reply_of, call_of, or_fault, refused_reply, unless_refused, wants_space, no_memory, replied}
 use Rattle.flat_model.specs.Step.{Step, flat_step, step_of, step_behind, called_step as step_called, replied_step, reply_asked, call_entry}
 use Rattle.flat_model.specs.Run.{step_at, due}
 use Rattle.flat_model.specs.Asked.{change_wanted, wanted_in, wanted_if, asks_by, asks}
@@ -42,12 +40,12 @@ use Rattle.run_model.specs.Kinds.{ProcessRuns}
 use Rattle.run_model.specs.Act.{LastSays}
 use Rattle.run_model.proofs.Wanting.{splits_wanted}
 use Rattle.run_laws.specs.Flowing.{Awaits, WaitsBy}
-use Rattle.run_units.specs.Shown.{IsCallOf}
+use Rattle.run_laws.specs.Shown.{IsCallOf}
 use Rattle.run_units.specs.Serving.{At}
 use Rattle.run_units.specs.Stepping.{PassesNone}
 use Rattle.run_units.specs.Touching.{RunsInSpace, WantsPage, MakesNone, IsWhole, IsReadyFor, IsAnswered, IsCalledFor}
-use Rattle.run_units.proofs.Computations.{AllGives, gives_any, run_gives}
-use Rattle.run_units.proofs.Flows.{on_steps}
+use Rattle.run_laws.proofs.Computations.{AllGives, gives_any, run_gives}
+use Rattle.run_laws.proofs.Flows.{on_steps}
 use Rattle.run_units.proofs.Instructing.{hit_ready, miss_wanted, call_ready, call_wanted}
 use Rattle.run_units.proofs.Stepping.{step_known, none_asked}
 use Rattle.step_units.specs.Machines.{MakesCall}

@@ -29,11 +29,11 @@ use Rattle.proc_calls.specs.Served.TheVariants as served
 use Rattle.run_model.specs.State.{State}
 use Rattle.run_model.specs.Wanted.{touched_next, AllValid, locked_by, locked, Splits}
 use Rattle.run_model.specs.Snapshot.{before_absent}
-use Rattle.run_units.proofs.Left.{split_longer}
+use Rattle.economy_laws.proofs.Left.{split_longer}
 use Rattle.run_model.specs.Kinds.{ProcessRuns}
 use Rattle.run_model.specs.Next.{next_unit, under, work_by}
 use Rattle.run_model.proofs.Wanting.{splits_wanted}
-use Rattle.run_units.proofs.Flows.{runs_work}
+use Rattle.run_laws.proofs.Flows.{runs_work}
 use Rattle.flat_model.specs.Run.{IsBetween}
 use Rattle.run_units.specs.Leads.{Leads}
 use Rattle.run_units.specs.Serving.{At, IsWaiting, ServingLeads}

@@ -28,12 +28,12 @@ use Rattle.flat_model.specs.Run.{step_at}
 use Rattle.page_model.specs.Swapper.{is_out}
 use Rattle.run_model.specs.declared.mark.Mark.{Mark}
 use Rattle.run_model.specs.declared.mark.Mark.TheVariants as marks
-use Rattle.run_units.specs.Shown.{IsCallOf}
+use Rattle.run_laws.specs.Shown.{IsCallOf}
 use Rattle.run_model.specs.State.{State}
 use Rattle.run_model.specs.After.{after}
 use Rattle.run_model.specs.Next.{when, turn_instructions, turn_unit, work, under}
 use Rattle.run_model.specs.Kinds.{GoesOn}
-use Rattle.run_units.proofs.Written.{no_writes}
+use Rattle.run_laws.proofs.Written.{no_writes}
 use Rattle.run_units.specs.Touching.{IsCalledFor}
 use Rattle.run_units.proofs.Stepping.{none_asked}
 use Rattle.step_units.specs.Machines.{RunsOn}

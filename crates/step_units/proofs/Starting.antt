@@ -46,8 +46,8 @@ use Rattle.run_model.specs.State.{State}
 use Rattle.run_model.specs.After.{after, place_at, place_behind}
 use Rattle.run_model.specs.Snapshot.{pages_written}
 use Rattle.proc_calls.proofs.Spaces.{wanted_stays}
-use Rattle.run_units.proofs.Acts.{arrives}
-use Rattle.run_units.proofs.Execs.{execs_fit}
+use Rattle.run_laws.proofs.Acts.{arrives}
+use Rattle.run_laws.proofs.Execs.{execs_fit}
 use Rattle.run_units.specs.Leads.{MadeAs, Leads}
 use Rattle.run_units.specs.Stepping.{GivesBack, returned, with_holdings}
 use Rattle.run_units.specs.Touching.{IsCalledFor}

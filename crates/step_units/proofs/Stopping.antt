@@ -16,7 +16,7 @@ use Rattle.swapper.proofs.Stopping.{held_here}
 use Rattle.swapper.specs.Stops.{CauseBy, SpoilsBy, StopsAt, StopsBefore}
 use Rattle.run_model.specs.State.{State}
 use Rattle.run_model.specs.Next.{next_unit}
-use Rattle.run_units.specs.Machine.{IsJournalEntry}
+use Rattle.run_laws.specs.Machine.{IsJournalEntry}
 use Rattle.run_units.specs.Leads.{Leads}
 use Rattle.run_units.proofs.Units.{none_leads}
 use Rattle.step_units.specs.Stepped.{StopsNext, StopsBy, StopLeads}

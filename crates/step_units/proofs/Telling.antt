@@ -14,11 +14,11 @@ use Rattle.run_model.specs.Next.{or_else, next_unit}
 use Rattle.run_model.specs.Lawful.{Follows}
 use Rattle.run_model.proofs.After.{after_journal}
 use Rattle.run_model.proofs.NextUnits.{kind_of}
-use Rattle.run_units.specs.RunLawsRunning.{IsRun}
-use Rattle.run_units.proofs.Execs.{execs_fit}
-use Rattle.run_units.proofs.Flows.{awaits_next, next_or, act_plain, acted, Acted, Settles, Refuses, Steps, steps_own, plain_point}
-use Rattle.run_units.proofs.RunLawsBeginning.{run_start}
-use Rattle.run_units.proofs.Running.{run_on}
+use Rattle.run_laws.specs.Running.{IsRun}
+use Rattle.run_laws.proofs.Execs.{execs_fit}
+use Rattle.run_laws.proofs.Flows.{awaits_next, next_or, act_plain, acted, Acted, Settles, Refuses, Steps, steps_own, plain_point}
+use Rattle.run_laws.proofs.Beginning.{run_start}
+use Rattle.run_laws.proofs.Running.{run_on}
 use Rattle.run_laws.specs.Flowing.{WaitsBy}
 use Rattle.step_units.specs.Rests.{unless_done, before_done, beginning, BeginningIsLast}
 use Rattle.step_units.proofs.Behind.{refusal_waits}

@@ -10,17 +10,16 @@ use Rattle.flat_state.specs.Flat.{Process, FlatState, Inputs, can_step, is_ready
 use Rattle.flat_state.specs.Numbers.{AllDistinct, pids_of}
 use Rattle.page_model.specs.Pages.{changed}
 use Rattle.page_model.specs.Swapper.{is_out, residence_of}
-use Rattle.page_model.specs.Placement.{Residence}
+use Rattle.page_model.specs.Placement.{Residence, Due}
 use Rattle.kernel_model.specs.Kernel.{Kernel, note_step}
 use Rattle.machine_state.specs.Machine.{Standing}
 use Rattle.machine_state.specs.Swapping.{AsksU, IsIn}
 use Rattle.swapper.specs.Stops.{StopsAt}
-use Rattle.run_units.proofs.Finding.{found_by_number, found_passes}
+use Rattle.run_laws.proofs.Finding.{found_by_number, found_passes}
 use Rattle.run_model.specs.declared.mark.Mark.TheVariants as marks
 use Rattle.run_model.specs.State.{State}
 use Rattle.run_model.specs.After.{after, brought_in, place_at}
 use Rattle.run_model.specs.Next.{when, or_else, due_unit, next_mark, pid_if, next_ready, next_turned, last_turned, goes_on, turn_instructions, turn_unit, turn_by, under, next_unit}
-use Rattle.page_model.specs.Placement.{Due}
 use Rattle.run_units.specs.Leads.{MadeAs, Leads}
 use Rattle.run_units.proofs.Swapping.{note_made, in_made}
 use Rattle.step_units.specs.Machines.{MachineAt}

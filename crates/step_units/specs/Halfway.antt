@@ -15,7 +15,7 @@ use Rattle.swapper.specs.Putting.{HoldsThere, PutOut, putting_out}
 use Rattle.run_model.specs.declared.mark.Mark.TheVariants as marks
 use Rattle.run_model.specs.State.{State}
 use Rattle.run_model.specs.After.{interrupt_mark}
-use Rattle.run_units.specs.Longwords.{ProcessesFit}
+use Rattle.run_laws.specs.Longwords.{ProcessesFit}
 use Rattle.run_units.specs.Serving.{At}
 use Rattle.step_units.specs.Machines.{MachineAt}
 use Rattle.step_units.specs.Stepped.{StopLeads}

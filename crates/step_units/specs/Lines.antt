@@ -18,7 +18,7 @@ use Rattle.proc_calls.specs.Moved.{Moved, moving_hands}
 use Rattle.swapper.specs.declared.Turned.{Turned}
 use Rattle.swapper.specs.Runners.{runners_of, choice_of}
 use Rattle.swapper.specs.Turns.{Turns, StopsTurning}
-use Rattle.run_units.specs.Longwords.{ProcessesFit}
+use Rattle.run_laws.specs.Longwords.{ProcessesFit}
 use Rattle.run_model.specs.declared.mark.Mark.TheVariants as marks
 use Rattle.run_model.specs.State.{State, runners}
 use Rattle.run_model.specs.After.{interrupt_mark, swap_mark, mark_of_event}

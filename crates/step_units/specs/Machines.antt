@@ -8,7 +8,7 @@ use Rattle.user_vax.specs.Instruction.{instruction}
 use Rattle.flat_state.specs.Space.{Space}
 use Rattle.flat_state.specs.Flat.{Process, Inputs}
 use Rattle.flat_model.specs.declared.calls.SystemCall.{SystemCall}
-use Rattle.run_units.specs.Shown.{IsCallOf}
+use Rattle.run_laws.specs.Shown.{IsCallOf}
 use Rattle.machine_state.specs.Machine.{Standing}
 use Rattle.machine_state.specs.Files.{AreRunImages}
 use Rattle.machine_state.specs.UserMemory.{kernel_answers}

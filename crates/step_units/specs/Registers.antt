@@ -4,7 +4,7 @@ use Rattle.vm_facts.specs.SwapImages.{SwapImage}
 use Rattle.vm_facts.specs.declared.entry.Entry.{Entry}
 use Rattle.flat_state.specs.Flat.{Inputs}
 use Rattle.kernel_model.specs.Kernel.{Kernel}
-use Rattle.run_units.specs.Longwords.{ProcessesFit, AllImages}
+use Rattle.run_laws.specs.Longwords.{ProcessesFit, AllImages}
 use Rattle.run_model.specs.State.{State}
 use Rattle.run_units.specs.Leads.{Leads}
 use Rattle.run_units.specs.Serving.{At}

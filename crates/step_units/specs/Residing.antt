@@ -6,7 +6,7 @@ use Rattle.flat_state.specs.Flat.{Inputs}
 use Rattle.kernel_model.specs.Kernel.{Kernel}
 use Rattle.page_model.specs.Swapper.{is_out}
 use Rattle.run_model.specs.State.{State}
-use Rattle.run_units.specs.Stretch.{IsClosing}
+use Rattle.economy_laws.specs.Stretch.{IsClosing}
 use Rattle.run_units.specs.Leads.{Leads}
 
 -- in the closing phase units lead to no state at which a process is out that was in

@@ -26,7 +26,7 @@ use Rattle.run_model.specs.Wanted.{wanted}
 use Rattle.run_model.specs.Act.{act}
 use Rattle.run_model.specs.Next.{when, or_else}
 use Rattle.run_model.specs.Lawful.{Follows}
-use Rattle.run_units.specs.RunLawsRunning.{CanRun}
+use Rattle.run_laws.specs.Running.{CanRun}
 use Rattle.run_units.specs.Touching.{RunsInSpace}
 use Rattle.step_units.specs.Machines.{MachineAt, MakesCall}
 use Rattle.step_units.specs.Stepped.{StepLeads, StopLeads}

@@ -2,9 +2,9 @@
 use crate::checks::is;
 use kernel_model::HandPart;
 use paged_model::Line;
+use repage_command::{Trace, read_trace};
 use std::alloc::Global;
 use std::process::Abort;
-use trace_text::{Trace, read_trace};
 use vm_facts::Page;
 
 // The part of a line, if it is one.

@@ -8,7 +8,7 @@ use Rattle.vax_code.specs.Table.{row_for}
 use Rattle.vax_code.specs.Reading.{decoded}
 use Rattle.vax_code.specs.Grammar.{BeginsWith}
 use Rattle.vax_code.proofs.Law.{is_decoded}
-use Rattle.asm_grammar.specs.Text.{◌>>=◌, front_of, behind, after}
+use Rattle.asm_grammar.specs.Text.{◌>>=◌, front_of, behind, behind_byte}
 use Rattle.asm_grammar.specs.Values.{is_word_byte}
 use Rattle.asm_grammar.specs.Mnemonics.{same_text}
 use Rattle.asm_grammar.specs.Sentences.{sentence_of, is_short}
@@ -58,7 +58,7 @@ bind_none (Some l) f h = h l
 
 directives_none : (text : List ℕ) → instruction_in (directive_of text) ≡ None
 unfolding directive_of
-directives_none text = bind_none (after 32 (behind is_word_byte text)) (λ rest. directive_by (front_of is_word_byte text) rest) (λ rest. directive_none (front_of is_word_byte text) rest)
+directives_none text = bind_none (behind_byte 32 (behind is_word_byte text)) (λ rest. directive_by (front_of is_word_byte text) rest) (λ rest. directive_none (front_of is_word_byte text) rest)
 
 instruction_sentence : (text : List ℕ) (sentence : Sentence) → instruction_in (instruction_of text) ≡ Some sentence → sentence_of text ≡ Some sentence
 unfolding instruction_of

@@ -9,14 +9,14 @@ use Rattle.kernel_model.specs.Kernel.{Kernel}
 use Rattle.machine_state.specs.Machine.{Standing}
 use Rattle.run_model.specs.State.{State}
 use Rattle.run_model.specs.Swapped.{left_from}
-use Rattle.journal_laws.specs.Leads.{Leads}
-use Rattle.journal_laws.specs.Serving.{At}
+use Rattle.run_units.specs.Leads.{Leads}
+use Rattle.run_units.specs.Serving.{At}
 use Rattle.step_units.specs.Stepped.{StopLeads}
-use Rattle.journal_laws.specs.Accounts.{Account}
-use Rattle.journal_laws.specs.Economy.{Economy}
-use Rattle.journal_laws.proofs.Accounts.{units_accounted}
-use Rattle.journal_laws.proofs.Stretches.{units_economical}
-use Rattle.journal_laws.proofs.Journals.{leads_follow, leads_told}
+use Rattle.run_units.specs.Accounts.{Account}
+use Rattle.run_units.specs.Economy.{Economy}
+use Rattle.run_units.proofs.Accounts.{units_accounted}
+use Rattle.run_units.proofs.Stretches.{units_economical}
+use Rattle.run_units.proofs.Journals.{leads_follow, leads_told}
 use Rattle.vm_core.specs.Accounts.{StopsAccounted}
 
 module _ (A : Inputs) (s t : State) (k l : Kernel) (image : SwapImage) (us : List Entry) (j : Option SwapImage) (at : At A s k image) (leads : Leads A s k image us t l j) where

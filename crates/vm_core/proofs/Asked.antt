@@ -17,19 +17,19 @@ use Rattle.machine_state.specs.Sourced.{files_named}
 use Rattle.machine_state.specs.Conditions.{HasStopped}
 use Rattle.machine_state.specs.Failing.{LosesFor}
 use Rattle.machine_state.specs.Done.{sources, IsDone, ImageAfter, StopsFor, SwapAfter, StopsEnding}
-use Rattle.journal_laws.specs.Stops.{StopsBefore, StopsWhile}
-use Rattle.journal_laws.specs.Moved.{Moved, moving_hands}
+use Rattle.swapper.specs.Stops.{StopsBefore, StopsWhile}
+use Rattle.run_units.specs.Moved.{Moved, moving_hands}
 use Rattle.swapper.specs.declared.Turned.{Turned}
 use Rattle.swapper.specs.Runners.{runners_of, choice_of}
 use Rattle.swapper.specs.Turns.{Turns, StopsTurning}
 use Rattle.step_units.proofs.Transfers.{done_continues}
 use Rattle.step_units.proofs.LinesContinue.{moves_continue, turn_continues}
-use Rattle.journal_laws.specs.LastMoves.{last_moves}
+use Rattle.swapper.specs.LastMoves.{last_moves}
 use Rattle.run_model.specs.State.{State}
 use Rattle.run_model.specs.After.{interrupt_mark}
 use Rattle.run_model.specs.Next.{owners_of, last_turned}
-use Rattle.journal_laws.specs.Leads.{Leads}
-use Rattle.journal_laws.proofs.Units.{none_leads}
+use Rattle.run_units.specs.Leads.{Leads}
+use Rattle.run_units.proofs.Units.{none_leads}
 use Rattle.step_units.specs.Stepped.{StopLeads, LeadsFrom, StopsFrom}
 use Rattle.step_units.specs.Lines.{LineLeads}
 use Rattle.step_units.proofs.Asking.{interrupt_made, idle_ends, interrupt_stops, hands_made, hands_stop, audit_made, audit_stops}

@@ -19,10 +19,10 @@ use Rattle.run_model.proofs.After.{after_count}
 use Rattle.run_laws.proofs.Lawful.{next_is_unit}
 use Rattle.run_laws.proofs.Machines.{swaps_follow}
 use Rattle.economy_laws.proofs.Finishing.Wholes.{counts_one}
-use Rattle.journal_laws.specs.Stretch.{turns_of, counts, NoneCounts}
-use Rattle.journal_laws.proofs.Idle.{count_most, few_turns}
-use Rattle.journal_laws.specs.Leads.{Leads}
-use Rattle.journal_laws.proofs.Units.{none_leads, both_lead}
+use Rattle.economy_laws.specs.Stretch.{turns_of, counts, NoneCounts}
+use Rattle.economy_laws.proofs.Idle.{count_most, few_turns}
+use Rattle.run_units.specs.Leads.{Leads}
+use Rattle.run_units.proofs.Units.{none_leads, both_lead}
 use Rattle.step_units.specs.Lines.{IsOver, TurnDue}
 use Rattle.step_units.specs.Stepped.{LeadsFrom, StopsFrom}
 use Rattle.proc_run.specs.Choosing.{turn_after as chosen_next}

@@ -18,8 +18,8 @@ use Rattle.machine_state.specs.Machine.{Standing}
 use Rattle.machine_state.specs.Sourced.{ImageNamed, files_named}
 use Rattle.run_model.specs.State.{start}
 use Rattle.run_laws.specs.Running.{CanRun}
-use Rattle.journal_laws.specs.Leads.{Leads}
-use Rattle.journal_laws.proofs.Units.{both_lead}
+use Rattle.run_units.specs.Leads.{Leads}
+use Rattle.run_units.proofs.Units.{both_lead}
 use Rattle.step_units.specs.Stepped.{StopLeads, LeadsFrom, StopsFrom}
 use Rattle.step_units.specs.Sizes.{KeptAtStop}
 use Rattle.vm_core.specs.FirstProcesses.{AreAmong, StartsFrom}

@@ -13,8 +13,8 @@ use Rattle.flat_state.specs.Flat.{Inputs}
 use Rattle.page_model.specs.Placement.{Due}
 use Rattle.run_model.specs.State.{State}
 use Rattle.run_model.specs.Next.{due_unit, or_else, under, when, line_or_turn, next_mark, next_unit}
-use Rattle.journal_laws.specs.Leads.{Leads}
-use Rattle.journal_laws.proofs.Units.{none_leads, both_lead}
+use Rattle.run_units.specs.Leads.{Leads}
+use Rattle.run_units.proofs.Units.{none_leads, both_lead}
 use Rattle.step_units.specs.Lines.{IsOver}
 use Rattle.step_units.specs.Stepped.{LeadsFrom, StopsFrom}
 use Rattle.vm_core.specs.declared.events.Went.{Went}

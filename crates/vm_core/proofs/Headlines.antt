@@ -13,8 +13,8 @@ use Rattle.run_model.proofs.Snapshots.{after_snapshot}
 use Rattle.run_laws.specs.Running.{CanRun, IsIdle}
 use Rattle.run_laws.proofs.Lawful.{all_units, follows_state}
 use Rattle.run_laws.proofs.Finishing.{units_below}
-use Rattle.journal_laws.specs.Owners.{IsOwned}
-use Rattle.journal_laws.specs.Accounts.{AtEach, IsAccounted, Account}
+use Rattle.run_units.specs.Owners.{IsOwned}
+use Rattle.run_units.specs.Accounts.{AtEach, IsAccounted, Account}
 use Rattle.vm_core.specs.Lawful.{IsJournalOf, RunFinished}
 use Rattle.vm_core.specs.Headline.{KeepsOwners, KeepsTurns, snapshot_behind, last_snapshot, Headline, RunIsOver, HeadlineOver}
 

@@ -22,7 +22,7 @@ use Rattle.machine_state.specs.Done.{SpoilsAll, SpoilsFirst as SpoilsTransfers, 
 use Rattle.machine_state.specs.Sourced.{files_named}
 use Rattle.machine_state.specs.Machine.{Standing}
 use Rattle.machine_state.specs.Failing.{LosesOldest}
-use Rattle.journal_laws.specs.Stops.{CauseBy, SpoilsBy, StaysPut, StaysStarved, StaysReturned, StoppedByFault, LeftBy}
+use Rattle.swapper.specs.Stops.{CauseBy, SpoilsBy, StaysPut, StaysStarved, StaysReturned, StoppedByFault, LeftBy}
 use Rattle.run_model.specs.State.{State, start}
 use Rattle.run_model.specs.After.{after}
 use Rattle.run_model.specs.Next.{next_unit}
@@ -36,10 +36,10 @@ use Rattle.run_laws.proofs.Going.{unit_goes}
 use Rattle.run_laws.proofs.Machines.{start_keeps, swaps_keep}
 use Rattle.run_laws.proofs.SwapImages.{writes_flat}
 use Rattle.run_laws.proofs.Wholes.{start_run}
-use Rattle.journal_laws.specs.Leads.{Leads}
+use Rattle.run_units.specs.Leads.{Leads}
 use Rattle.vm_core.specs.Leading.{machine_at_start}
 use Rattle.step_units.specs.Stepped.{StopLeads, StopsNext}
-use Rattle.journal_laws.proofs.Journals.{leads_follow, journal_lawful, journal_accounted, journal_economical, journal_image}
+use Rattle.run_units.proofs.Journals.{leads_follow, journal_lawful, journal_accounted, journal_economical, journal_image}
 use Rattle.vm_core.specs.Cores.{Underway, StandsUnderway}
 use Rattle.vm_core.specs.Halting.{HaltsFor, SpoilsParts, SpoilsOldest, AsksParts, AsksErrand, AsksOldest, LeavesImage}
 use Rattle.vm_core.specs.Lawful.{IsJournalOf, RunFinished, RunHalted, RunStarved}

@@ -8,8 +8,8 @@ use Rattle.vm_facts.specs.declared.stop.Stop.TheVariants as stops
 use Rattle.io_edge.specs.FileHolding.{NamedFile}
 use Rattle.machine_state.specs.Machine.{Standing}
 use Rattle.machine_state.specs.Conditions.{HasStopped}
-use Rattle.journal_laws.specs.Stops.{StopsWhile}
-use Rattle.journal_laws.specs.Moved.{moving_hands}
+use Rattle.swapper.specs.Stops.{StopsWhile}
+use Rattle.run_units.specs.Moved.{moving_hands}
 use Rattle.step_units.specs.Sizes.{KeptAtStop}
 use Rattle.swapper.specs.declared.Turned.TheVariants as turns
 use Rattle.swapper.specs.declared.Turned.{Turned}

@@ -14,9 +14,9 @@ use Rattle.machine_state.specs.Machine.{Standing}
 use Rattle.step_units.specs.Reading.{AreNamed}
 use Rattle.run_model.specs.State.{State}
 use Rattle.run_laws.proofs.Machines.{swaps_follow}
-use Rattle.journal_laws.proofs.Idle.{many_on}
-use Rattle.journal_laws.specs.Leads.{Leads}
-use Rattle.journal_laws.proofs.Units.{both_lead, leads_at}
+use Rattle.economy_laws.proofs.Idle.{many_on}
+use Rattle.run_units.specs.Leads.{Leads}
+use Rattle.run_units.proofs.Units.{both_lead, leads_at}
 use Rattle.step_units.specs.Stepped.{StopLeads}
 use Rattle.step_units.proofs.Longwords.{longwords_stay}
 use Rattle.vm_core.specs.Cores.{InputsOf, StandsIn}

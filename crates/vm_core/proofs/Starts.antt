@@ -13,7 +13,7 @@ use Rattle.run_laws.proofs.Registers.{start_regs_are}
 use Rattle.run_model.specs.State.{start}
 use Rattle.run_model.specs.Next.{under, last_turned}
 use Rattle.run_laws.proofs.Sizing.{started_few}
-use Rattle.journal_laws.specs.Serving.{At}
+use Rattle.run_units.specs.Serving.{At}
 use Rattle.vm_core.specs.FirstProcesses.{HasStarted}
 use Rattle.vm_core.specs.Leading.{IsTold, machine_at_start, StartLeads, StartStops}
 use Rattle.vm_core.proofs.Led.{stands_at_start}

@@ -12,7 +12,7 @@ use Rattle.machine_state.specs.Going.{CanGoOn}
 use Rattle.machine_state.specs.Machine.{Standing}
 use Rattle.machine_state.specs.Settled.{IsSameBeside}
 use Rattle.machine_state.specs.Swapping.{IsIn, AsksU}
-use Rattle.journal_laws.specs.LastMoves.{last_moves}
+use Rattle.swapper.specs.LastMoves.{last_moves}
 use Rattle.step_units.specs.Ready.{Continues, RunsMoved}
 use Rattle.step_units.proofs.Journals.{last_plain}
 use Rattle.step_units.proofs.Entries.{note_continues}

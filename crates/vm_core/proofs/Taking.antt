@@ -13,15 +13,15 @@ use Rattle.page_model.specs.Placement.{Placement}
 use Rattle.page_model.specs.Swapper.{swap_choice}
 use Rattle.kernel_model.specs.Kernel.{note_step}
 use Rattle.machine_state.specs.Machine.{Standing}
-use Rattle.journal_laws.specs.Stops.{StopsBefore}
+use Rattle.swapper.specs.Stops.{StopsBefore}
 use Rattle.flat_model.specs.Run.{Point}
 use Rattle.run_model.specs.declared.mark.Mark.TheVariants as marks
 use Rattle.run_model.specs.State.{State, runners}
 use Rattle.run_model.specs.After.{interrupt_mark, swap_mark, mark_of_event}
 use Rattle.run_laws.proofs.Finishing.{units_below}
 use Rattle.run_laws.proofs.Machines.{swaps_follow}
-use Rattle.journal_laws.specs.Leads.{Leads}
-use Rattle.journal_laws.proofs.Units.{both_lead}
+use Rattle.run_units.specs.Leads.{Leads}
+use Rattle.run_units.proofs.Units.{both_lead}
 use Rattle.step_units.specs.Stepped.{StopLeads, LeadsFrom, StopsFrom}
 use Rattle.step_units.specs.Lines.{LineBegun, LineLeads}
 use Rattle.step_units.proofs.Beginning.{line_begins, line_stops}

@@ -13,11 +13,11 @@ use Rattle.page_model.specs.Placement.{Placement}
 use Rattle.kernel_model.specs.Kernel.{Kernel, note_step}
 use Rattle.machine_state.specs.Machine.{Standing}
 use Rattle.machine_state.specs.Swapping.{AsksU, IsIn}
-use Rattle.journal_laws.specs.Stops.{StopsAt, StopsBefore}
+use Rattle.swapper.specs.Stops.{StopsAt, StopsBefore}
 use Rattle.run_model.specs.State.{State}
 use Rattle.run_model.specs.Next.{goes_on, turn_instructions}
-use Rattle.journal_laws.specs.Leads.{Leads}
-use Rattle.journal_laws.proofs.Units.{none_leads, both_lead}
+use Rattle.run_units.specs.Leads.{Leads}
+use Rattle.run_units.proofs.Units.{none_leads, both_lead}
 use Rattle.step_units.specs.Stepped.{StopLeads, LeadsFrom, StopsFrom}
 use Rattle.step_units.specs.Lines.{TurnDue, TurnBegun, CameIn}
 use Rattle.step_units.proofs.Beginning.{turn_stops}

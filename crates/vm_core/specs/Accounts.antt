@@ -8,8 +8,8 @@ use Rattle.machine_state.specs.Machine.{Standing}
 use Rattle.run_model.specs.State.{State}
 use Rattle.run_model.specs.Swapped.{left_from}
 use Rattle.step_units.specs.Stepped.{StopLeads, LeadsFrom}
-use Rattle.journal_laws.specs.Accounts.{Account}
-use Rattle.journal_laws.specs.Economy.{Economy}
+use Rattle.run_units.specs.Accounts.{Account}
+use Rattle.run_units.specs.Economy.{Economy}
 
 -- Next units lead to a state, and there the run stopped. These units are accounted for, and few, and up to the one at which the
 -- run stopped the swap image is the one that they say.

@@ -13,13 +13,13 @@ use Rattle.run_model.specs.State.{State}
 use Rattle.run_model.specs.After.{mark_of_event}
 use Rattle.run_model.specs.Next.{last_turned}
 use Rattle.run_model.specs.Swapped.{left_from}
-use Rattle.journal_laws.specs.Leads.{Leads}
+use Rattle.run_units.specs.Leads.{Leads}
 use Rattle.step_units.specs.Machines.{MachineAt}
 use Rattle.step_units.specs.Lines.{IsOver, IsClear}
 use Rattle.step_units.specs.Registers.{HasLongwords}
 use Rattle.proc_run.specs.Runs.{IsSteady}
-use Rattle.journal_laws.specs.Accounts.{Account}
-use Rattle.journal_laws.specs.Economy.{Economy}
+use Rattle.run_units.specs.Accounts.{Account}
+use Rattle.run_units.specs.Economy.{Economy}
 
 -- a run: its machine, and how many instructions were counted
 pub record Underway : Type 0 where

@@ -10,12 +10,12 @@ use Rattle.machine_state.specs.Machine.{Standing}
 use Rattle.run_model.specs.State.{State, start}
 use Rattle.run_model.specs.Swapped.{left_from}
 use Rattle.run_laws.specs.Running.{CanRun}
-use Rattle.journal_laws.specs.Leads.{Leads}
-use Rattle.journal_laws.specs.Serving.{SameBut}
+use Rattle.run_units.specs.Leads.{Leads}
+use Rattle.run_units.specs.Serving.{SameBut}
 use Rattle.vm_core.specs.FirstProcesses.{IsNew}
 use Rattle.vm_core.specs.Leading.{IsTold, machine_at_start, StopsBeginning}
-use Rattle.journal_laws.specs.Accounts.{Account}
-use Rattle.journal_laws.specs.Economy.{Economy}
+use Rattle.run_units.specs.Accounts.{Account}
+use Rattle.run_units.specs.Economy.{Economy}
 use Rattle.vm_core.specs.Accounts.{StopsAccounted}
 use Rattle.vm_core.specs.Cores.{Underway, InputsOf, CoreAt}
 

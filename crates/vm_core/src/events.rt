@@ -2,7 +2,7 @@
 ghost use Rattle.io_edge.specs.WithFiles.{stores};
 ghost use Rattle.std.specs.Prelude.{◌≡◌, ◌<◌, ◌≤◌, ◌↔◌, OnOk, IfOk, IfErr};
 ghost use Rattle.machine_state.specs.Outside.{IsBacked, stop_of, TransfersPages};
-ghost use Rattle.journal_laws.specs.LastMoves.{last_moves};
+ghost use Rattle.swapper.specs.LastMoves.{last_moves};
 ghost use Rattle.flat_state.specs.Journal.{instructions_of};
 ghost use Rattle.step_units.specs.Sizes.{KeptAtStop};
 ghost use Rattle.step_units.specs.Stepped.{LeadsFrom, StopsFrom};

@@ -8,8 +8,8 @@ ghost use Rattle.kernel_model.specs.Kernel.{note_step};
 ghost use Rattle.machine_state.specs.Going.{CanGoOn};
 ghost use Rattle.machine_state.specs.Calls.{IsNote};
 ghost use Rattle.machine_state.specs.Outside.{IsBacked, stop_of, TransfersPages};
-ghost use Rattle.journal_laws.specs.Stops.{StopsBefore};
-ghost use Rattle.journal_laws.specs.LastMoves.{last_moves};
+ghost use Rattle.swapper.specs.Stops.{StopsBefore};
+ghost use Rattle.swapper.specs.LastMoves.{last_moves};
 ghost use Rattle.step_units.specs.Lines.{LineLeads};
 ghost use Rattle.step_units.specs.Sizes.{KeptAtStop};
 ghost use Rattle.step_units.specs.Stepped.{LeadsFrom, StopsFrom};
@@ -19,8 +19,8 @@ ghost use Rattle.vm_core.specs.Lines.{LineAt};
 
 use crate::owners::owners_of;
 use io_edge::{Files, SwapDev};
-use journal_laws::clock_hands::move_hands;
 use machine_state::Machine;
+use run_units::clock_hands::move_hands;
 use step_units::swapper::turn;
 use vm_facts::{Entry, Event, Stop};
 

@@ -4,8 +4,8 @@ use Rattle.vm_facts.specs.SwapImages.{SwapImage}
 use Rattle.io_edge.specs.Count.{Rose}
 use Rattle.io_edge.specs.FileHolding.{NamedFile}
 use Rattle.vm_facts.specs.declared.entry.Entry.{Entry}
-use Rattle.command_ending.specs.declared.fault.Fault.TheVariants.{Absent, NotImage, BadSchedule, FileFault, SwapReadFault, SwapWriteFault, NoMemory, JournalFull, NoSpace, ShortDevice}
-use Rattle.command_ending.specs.Command.{Writes, All, Prefix}
+use Rattle.command_edge.specs.declared.fault.Fault.TheVariants.{Absent, NotImage, BadSchedule, FileFault, SwapReadFault, SwapWriteFault, NoMemory, JournalFull, NoSpace, ShortDevice}
+use Rattle.command_edge.specs.Command.{Writes, All, Prefix}
 use Rattle.command_words.specs.Asked.{Request}
 use Rattle.repage_command.specs.Seen.{Seen}
 use Rattle.repage_command.specs.Machines.{journal_entries}

@@ -3,9 +3,9 @@ use Rattle.std.proofs.Common.{◌≡◌, ◌⊎◌, inl, inr, ℕ, ◌<◌, ◌�
 use Rattle.io_edge.specs.FileHolding.{NamedFile}
 use Rattle.vm_facts.specs.declared.entry.Entry.{Entry}
 use Rattle.command_words.specs.Asked.{Request, Asked, Run, Load, Replay, Assemble, Show, Optimum, Curve, Owners, Film, Stats, References, Grade, Repage, RepageOwners, Policies}
-use Rattle.command_ending.specs.declared.fault.Fault.TheVariants as faults
-use Rattle.command_ending.specs.Ending.{Ending, status_of as status_of_ending}
-use Rattle.command_ending.specs.Command.{Faults, NoFaults, EndCounted, Writes, All, Prefix, Completes}
+use Rattle.command_edge.specs.declared.fault.Fault.TheVariants as faults
+use Rattle.command_edge.specs.Ending.{Ending, status_of as status_of_ending}
+use Rattle.command_edge.specs.Command.{Faults, NoFaults, EndCounted, Writes, All, Prefix, Completes}
 use Rattle.repage_command.specs.Seen.{Seen, NoneFailed}
 use Rattle.repage_command.specs.RunCommandEnds.{RunEnding, run_status, NothingDone, Unbegun, NoneFaulted, PageFailedAlone, ReadFailedAlone, WriteFailedAlone, IsCaused}
 use Rattle.repage_command.specs.Loads.{IsLoadCaused}

@@ -4,8 +4,8 @@ use Rattle.vm_facts.specs.SwapImages.{SwapImage}
 use Rattle.io_edge.specs.FileRequests.{no_notes}
 use Rattle.io_edge.specs.FileHolding.{NamedFile}
 use Rattle.command_words.specs.Asked.{Request, Asked, Run, Load, Replay, Assemble, Show, Optimum, Curve, Owners, Film, Stats, References, Grade, Repage, RepageOwners, Policies}
-use Rattle.command_ending.specs.Ending.{Ending as CommandEnding}
-use Rattle.command_ending.specs.Command.{Faults, Writes, Completes}
+use Rattle.command_edge.specs.Ending.{Ending as CommandEnding}
+use Rattle.command_edge.specs.Command.{Faults, Writes, Completes}
 use Rattle.run_text.specs.Text.{text_of}
 use Rattle.io_edge.specs.Octets.{AreOctetFiles}
 use Rattle.repage_command.specs.Headlines.{Says}

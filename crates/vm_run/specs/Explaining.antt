@@ -2,11 +2,11 @@
 use Rattle.std.specs.Prelude.{◌≡◌, ◌==◌, ℕ, Bool, true, false, List, Option, Some, None}
 use Rattle.std.specs.Borrow.{Bor}
 use Rattle.io_edge.specs.FileHolding.{NamedFile}
-use Rattle.run_files.specs.declared.answers.Unread.{Unread}
-use Rattle.command_ending.specs.declared.fault.Fault.{Fault}
-use Rattle.command_ending.specs.declared.fault.Fault.TheVariants.{NoMemory}
-use Rattle.command_ending.specs.Ending.{fault_of}
-use Rattle.command_ending.specs.Command.{Faults}
+use Rattle.command_edge.specs.declared.answers.Unread.{Unread}
+use Rattle.command_edge.specs.declared.fault.Fault.{Fault}
+use Rattle.command_edge.specs.declared.fault.Fault.TheVariants.{NoMemory}
+use Rattle.command_edge.specs.Ending.{fault_of}
+use Rattle.command_edge.specs.Command.{Faults}
 use Rattle.command_words.specs.Asked.{Asked, Run, Assemble, Replay, Optimum, Curve, Owners, Film, Stats, References, Grade, Repage, RepageOwners, Policies, asked_of}
 use Rattle.command_words.specs.Explaining.{words_explained}
 use Rattle.source_commands.specs.Explaining.{ExplainsSource, LacksSource}

@@ -1,7 +1,7 @@
 -- Which calls failed, by the status with which a run ended.
 use Rattle.std.specs.Prelude.{◌≡◌, ◌⊎◌, ◌<◌, ℕ}
 use Rattle.io_edge.specs.Count.{Rose}
-use Rattle.command_ending.specs.Command.{OneFailed}
+use Rattle.command_edge.specs.Command.{OneFailed}
 use Rattle.repage_command.specs.Seen.{Seen, NoneFailed}
 use Rattle.repage_command.specs.RunCommandEnds.{NoneFaulted, ReadFailedAlone, WriteFailedAlone}
 

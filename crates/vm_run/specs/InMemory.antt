@@ -8,14 +8,13 @@ use Rattle.io_edge.specs.Striping.{pair_blocks, images_paired}
 use Rattle.io_edge.specs.Written.{Appends}
 use Rattle.vm_facts.specs.declared.entry.Entry.{Entry}
 use Rattle.run_text.specs.Text.{text_of}
-use Rattle.run_files.specs.Told.{bytes_told, image_told}
-use Rattle.command_words.specs.Asked.{Asked, Run, Load, Replay, Assemble, Show, Optimum, Curve, Owners, Film, Stats, References, Grade, Repage, RepageOwners, Policies}
-use Rattle.command_ending.specs.Ending.{Ending as CommandEnding}
-use Rattle.command_ending.specs.Command.{Faults, Writes, WritesEnding}
+use Rattle.command_edge.specs.Told.{bytes_told, image_told}
+use Rattle.command_words.specs.Asked.{Asked, Run, Load, Replay, Assemble, Show, Optimum, Curve, Owners, Film, Stats, References, Grade, Repage, RepageOwners, Policies, Request}
+use Rattle.command_edge.specs.Ending.{Ending as CommandEnding}
+use Rattle.command_edge.specs.Command.{Faults, Writes, WritesEnding}
 use Rattle.source_commands.specs.Command.{source_bytes, EndsAssembly, EndsListing}
 use Rattle.replay_command.specs.Reading.{read_of_transcript as replay_told}
 use Rattle.replay_command.specs.Command.{EndsReplay}
-use Rattle.command_words.specs.Asked.{Request}
 use Rattle.repage_command.specs.Seen.{Seen}
 use Rattle.repage_command.specs.Machines.{journal_entries}
 use Rattle.repage_command.specs.Paired.{image_together}
@@ -31,7 +30,7 @@ use Rattle.repage_command.specs.Ends.{EndsQuestion}
 use Rattle.repage_command.specs.GradeCommandReading.{trace_told}
 use Rattle.repage_command.specs.GradeCommandCommand.{EndsGrade}
 use Rattle.repage_command.specs.Command.{EndsRepage, EndsOwners}
-use Rattle.policy_command.specs.Command.{EndsPolicies, references_told}
+use Rattle.reference_answers.specs.Command.{EndsPolicies, references_told}
 use Rattle.vm_run.specs.Obeying.{Obeys}
 
 -- the swap image that two devices make together to which nothing was written

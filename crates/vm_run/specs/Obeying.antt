@@ -1,8 +1,8 @@
 -- That what the words ask for is done, command by command: the contract of the program's call.
 use Rattle.std.specs.Prelude.{ℕ, Option, Some, None, Err}
 use Rattle.command_words.specs.Asked.{Asked, Run, Load, Replay, Assemble, Show, Optimum, Curve, Owners, Film, Stats, References, Grade, Repage, RepageOwners, Policies}
-use Rattle.command_ending.specs.declared.fault.Fault.TheVariants.{BadWords}
-use Rattle.command_ending.specs.Command.{WritesEnding}
+use Rattle.command_edge.specs.declared.fault.Fault.TheVariants.{BadWords}
+use Rattle.command_edge.specs.Command.{WritesEnding}
 use Rattle.source_commands.specs.Command.{Assembles, Lists}
 use Rattle.replay_command.specs.Command.{Replays}
 use Rattle.repage_command.specs.Outside.{Early}
@@ -13,7 +13,7 @@ use Rattle.repage_command.specs.Question.TheVariants as questions
 use Rattle.repage_command.specs.Ends.{Answers}
 use Rattle.repage_command.specs.GradeCommandCommand.{Grades}
 use Rattle.repage_command.specs.Command.{Repages, TellsWhose}
-use Rattle.policy_command.specs.Command.{Compares}
+use Rattle.reference_answers.specs.Command.{Compares}
 
 -- The words are none of a command, and the line that says so was written; or they ask for a command, and it did what it is for.
 abbrev pub Obeys : Option Asked → Seen → ℕ → Type 0

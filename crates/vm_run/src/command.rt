@@ -8,10 +8,10 @@ ghost use Rattle.vm_run.specs.Headline.{CarriesFor};
 ghost use Rattle.vm_run.specs.Failing.{FailsByStatus};
 ghost use Rattle.vm_run.specs.Obeying.{Obeys, LeavesFiles, LeavesDevice};
 
-use command_ending::{Fault, write_ending};
+use command_edge::{Fault, write_ending};
 use command_words::{Command, read_words};
 use io_edge::{Files, Sink, SwapDev};
-use policy_command::compare_policies;
+use reference_answers::compare_policies;
 use repage_command::grade_command::grade_file;
 use repage_command::grade_command::question_command::reference_commands::run_command::{
     load_command, run_command,

@@ -1,7 +1,7 @@
 //! What is told beside the line of a fault, by the command and the status.
 ghost use Rattle.std.specs.Prelude.{◌≡◌, ◌==◌, IfOk, IfErr, map, option_map};
 ghost use Rattle.io_edge.specs.Calls.{KeepsFiles};
-ghost use Rattle.command_ending.specs.declared.fault.Fault.TheVariants.{NoMemory};
+ghost use Rattle.command_edge.specs.declared.fault.Fault.TheVariants.{NoMemory};
 ghost use Rattle.command_words.specs.Command.{IsFittingRun};
 ghost use Rattle.command_words.specs.declared.limits.TheConstants.{MOST_LIMIT};
 ghost use Rattle.command_words.specs.Explaining.{words_explained};
@@ -11,7 +11,7 @@ ghost use Rattle.line_reasons.specs.ReferenceExplaining.{ExplainsReferences, Lac
 ghost use Rattle.repage_command.specs.Explaining.{ExplainsRepage, LacksWhy};
 ghost use Rattle.vm_run.specs.Explaining.{Explains, LacksFile, LacksReason, LacksWhere, ToldWhere};
 
-use command_ending::Fault;
+use command_edge::Fault;
 use command_words::{Command, Numbers, explain_words, read_words};
 use io_edge::Files;
 use line_reasons::{explain_references, explain_schedule};

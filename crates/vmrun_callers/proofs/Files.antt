@@ -13,8 +13,8 @@ use Rattle.std.proofs.Math.Seq.{get_or-append_seam}
 use Rattle.io_edge.specs.FileHolding.{NamedFile, no_file, place_of, bytes_at}
 use Rattle.aout_image.specs.Image.{judged_image}
 use Rattle.flat_state.specs.Flat.{NamedImage}
-use Rattle.run_files.specs.Told.{bytes_if, whole_told_at, whole_told}
-use Rattle.command_ending.specs.Named.{Why, before}
+use Rattle.command_edge.specs.Told.{bytes_if, whole_told_at, whole_told}
+use Rattle.command_edge.specs.Named.{Why, before}
 use Rattle.run_opening.specs.Images.{named_image, image_found_at, image_found, images_found}
 
 -- the copies so far, and one more

@@ -6,10 +6,10 @@ use Rattle.io_edge.specs.FileHolding.{NamedFile}
 use Rattle.flat_state.specs.Flat.{NamedImage, Inputs, can_step}
 use Rattle.flat_model.specs.Run.{Point, flat_run}
 use Rattle.run_text.specs.Text.{text_of}
-use Rattle.run_files.specs.ImageWords.{image_names, first_images}
-use Rattle.command_ending.specs.Command.{Writes, All, Prefix}
-use Rattle.command_ending.specs.Named.{Why}
-use Rattle.command_ending.proofs.Statuses.{status_is_not_0}
+use Rattle.command_edge.specs.ImageWords.{image_names, first_images}
+use Rattle.command_edge.specs.Command.{Writes, All, Prefix}
+use Rattle.command_edge.specs.Named.{Why}
+use Rattle.command_edge.proofs.Statuses.{status_is_not_0}
 use Rattle.run_opening.specs.Images.{images_found}
 use Rattle.command_words.specs.Asked.{Request}
 use Rattle.vm_run.specs.RunHeadline.{last_snapshot}

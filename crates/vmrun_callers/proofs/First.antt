@@ -24,10 +24,10 @@ use Rattle.run_model.specs.Lawful.{Follows}
 use Rattle.run_text.specs.Lines.{lines_in, AreLines}
 use Rattle.run_text.specs.Schedule.{IsEventLine}
 use Rattle.run_text.specs.Text.{text_of, line_of as entry_line}
-use Rattle.run_files.specs.ImageWords.{image_names, first_images}
-use Rattle.command_ending.specs.declared.fault.Fault.{Fault}
-use Rattle.command_ending.specs.declared.fault.Fault.TheVariants.{Absent, NotImage, BadSchedule, FileFault, SwapReadFault, SwapWriteFault, NoMemory, JournalFull, NoSpace, ShortDevice}
-use Rattle.command_ending.specs.Command.{All, Prefix}
+use Rattle.command_edge.specs.ImageWords.{image_names, first_images}
+use Rattle.command_edge.specs.declared.fault.Fault.{Fault}
+use Rattle.command_edge.specs.declared.fault.Fault.TheVariants.{Absent, NotImage, BadSchedule, FileFault, SwapReadFault, SwapWriteFault, NoMemory, JournalFull, NoSpace, ShortDevice}
+use Rattle.command_edge.specs.Command.{All, Prefix}
 use Rattle.command_words.specs.declared.command.Numbers.{Numbers}
 use Rattle.command_words.specs.Words.{has_up_to, is_plain, decimal_of, in_range, number_in, is_name, is_image_word, are_image_words, is_trace, without_trace}
 use Rattle.command_words.specs.Asked.{Asked, Run, Request, run_numbers, all_numbers, asked_with_run, asked_run, asked_of}
@@ -36,7 +36,7 @@ use Rattle.run_opening.specs.Images.{images_found, file_numbers}
 use Rattle.run_opening.specs.Opening.{FoundFiles, HasAll, found_told}
 use Rattle.page_laws.specs.Spans.{is_hands, ends_moving, added}
 use Rattle.page_laws.proofs.Spanning.{units_added, adds_most}
-use Rattle.transcript_laws.proofs.Lines.{no_lines}
+use Rattle.replay_command.proofs.Lines.{no_lines}
 use Rattle.vm_run.specs.RunCommandAsking.{AsksFor}
 use Rattle.vm_run.specs.Seen.{DeviceFailed}
 use Rattle.vm_run.specs.RunCommandEnds.{RunEnding, run_status, ending_line, Writing, IsCaused, IsJudged, EndsTold}

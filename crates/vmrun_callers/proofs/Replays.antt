@@ -11,21 +11,21 @@ use Rattle.io_edge.specs.FileHolding.{NamedFile, place_of}
 use Rattle.io_edge.specs.Told.{some_is}
 use Rattle.run_text.specs.Text.{text_of}
 use Rattle.run_text.specs.Lines.{lines_in, AreLines}
-use Rattle.run_files.specs.Told.{bytes_if}
-use Rattle.run_files.specs.ImageWords.{image_names}
-use Rattle.run_files.specs.declared.answers.Unread.{Unread}
-use Rattle.command_ending.specs.declared.fault.Fault.TheVariants as faults
-use Rattle.command_ending.specs.Ending.{Ending, ending_text as written_at, status_of}
-use Rattle.command_ending.specs.Command.{Faults, All, Prefix, WritesEnding}
+use Rattle.command_edge.specs.Told.{bytes_if}
+use Rattle.command_edge.specs.ImageWords.{image_names}
+use Rattle.command_edge.specs.declared.answers.Unread.{Unread}
+use Rattle.command_edge.specs.declared.fault.Fault.TheVariants as faults
+use Rattle.command_edge.specs.Ending.{Ending, ending_text as written_at, status_of}
+use Rattle.command_edge.specs.Command.{Faults, All, Prefix, WritesEnding}
 use Rattle.command_words.specs.Words.{is_plain, is_name}
 use Rattle.command_words.specs.Asked.{Asked, Replay, asked_of}
-use Rattle.transcript_laws.specs.Reading.{Read, HasEntries, transcript_bytes, images_told, read_of_transcript}
-use Rattle.transcript_laws.specs.Command.{run_line, EndsReplay}
-use Rattle.transcript_laws.specs.Replayed.{entries_shown}
-use Rattle.transcript_laws.specs.Accepting.{ReadsText, IsAccepted}
-use Rattle.transcript_laws.proofs.Accepting.{are_accepted}
-use Rattle.transcript_laws.proofs.Images.{same_images}
-use Rattle.transcript_laws.proofs.Lines.{no_lines}
+use Rattle.replay_command.specs.Reading.{Read, HasEntries, transcript_bytes, images_told, read_of_transcript}
+use Rattle.replay_command.specs.Command.{run_line, EndsReplay}
+use Rattle.replay_command.specs.Replayed.{entries_shown}
+use Rattle.replay_command.specs.Accepting.{ReadsText, IsAccepted}
+use Rattle.replay_command.proofs.Accepting.{are_accepted}
+use Rattle.replay_command.proofs.SameImages.{same_images}
+use Rattle.replay_command.proofs.Lines.{no_lines}
 use Rattle.vm_run.specs.Paired.{image_together}
 use Rattle.vm_run.specs.InMemory.{seen_of, blank_pair, CompletesTold, DoesInMemory}
 use Rattle.vmrun_callers.specs.Replayed.{replay_words, IsReplayed, FlatRun, TooLong, NoMemory, OutputFailed, RunIsReplayed}
@@ -67,7 +67,7 @@ module _ (name : List ℕ) (words : List (List ℕ)) (read : Read) (long : read.
   ends_unread (Err faults.NoMemory) ends = tt
   ends_unread (Err (faults.NotFlatRun line)) ends = absurd (none_read ends.0 ends.1.has)
   ends_unread (Err (faults.BadTranscript line)) bad =
-      absurd (subst (λ (t : Result (Option (List ℕ)) Unread). Rattle.transcript_laws.specs.Reading.HasBadLine t line) long bad)
+      absurd (subst (λ (t : Result (Option (List ℕ)) Unread). Rattle.replay_command.specs.Reading.HasBadLine t line) long bad)
   ends_unread (Err faults.TooLong) ends = tt
   ends_unread (Err _) ends = absurd ends
 

@@ -5,12 +5,12 @@ use Rattle.vm_facts.specs.declared.entry.Entry.{Entry}
 use Rattle.io_edge.specs.FileHolding.{NamedFile}
 use Rattle.flat_state.specs.Flat.{Inputs}
 use Rattle.run_text.specs.Text.{text_of}
-use Rattle.run_files.specs.ImageWords.{image_names, first_images}
-use Rattle.command_ending.specs.declared.fault.Fault.{Fault}
-use Rattle.command_ending.specs.Command.{All, Prefix}
-use Rattle.command_ending.proofs.Statuses.{status_is_not_0}
+use Rattle.command_edge.specs.ImageWords.{image_names, first_images}
+use Rattle.command_edge.specs.declared.fault.Fault.{Fault}
+use Rattle.command_edge.specs.Command.{All, Prefix}
+use Rattle.command_edge.proofs.Statuses.{status_is_not_0}
 use Rattle.run_opening.specs.Images.{images_found}
-use Rattle.transcript_laws.specs.Replayed.{IsFlatText}
+use Rattle.replay_command.specs.Replayed.{IsFlatText}
 use Rattle.command_words.specs.Asked.{Request}
 use Rattle.vm_run.specs.RunCommandEnds.{Writing, EndsTold}
 use Rattle.vm_run.specs.InMemory.{seen_of, RunsTold}

@@ -1,12 +1,12 @@
 -- How the replay of a run's own text ends.
 use Rattle.std.specs.Prelude.{◌≡◌, ◌<◌, ℕ, Bool, List, [], ◌∷◌, length, codes, Option, Some}
 use Rattle.run_text.specs.Lines.{lines_in}
-use Rattle.command_ending.specs.Ending.{fault_line}
-use Rattle.command_ending.specs.declared.fault.Fault.TheVariants as faults
+use Rattle.command_edge.specs.Ending.{fault_line}
+use Rattle.command_edge.specs.declared.fault.Fault.TheVariants as faults
 use Rattle.command_words.specs.Asked.{Asked, Run}
 use Rattle.command_words.specs.declared.command.Numbers.{Numbers}
-use Rattle.transcript_laws.specs.Reading.{transcript_bytes}
-use Rattle.transcript_laws.specs.Command.{run_line}
+use Rattle.replay_command.specs.Reading.{transcript_bytes}
+use Rattle.replay_command.specs.Command.{run_line}
 
 -- the words of a replay of this transcript over the images of a run that is asked for; over none where none is
 abbrev pub replay_words : List ℕ → Option Asked → List (List ℕ)

@@ -3,7 +3,7 @@ use Rattle.std.specs.Prelude.{◌≡◌, ◌⊎◌, ℕ, Bool, true, List, [], �
 use Rattle.vm_facts.specs.declared.entry.Entry.{Entry}
 use Rattle.io_edge.specs.FileHolding.{NamedFile}
 use Rattle.run_text.specs.Text.{text_of}
-use Rattle.run_files.specs.ImageWords.{image_names, first_images}
+use Rattle.command_edge.specs.ImageWords.{image_names, first_images}
 use Rattle.command_words.specs.Asked.{Request}
 use Rattle.run_opening.specs.Images.{images_found}
 use Rattle.flat_laws.specs.Others.{is_refusal}

@@ -28,7 +28,7 @@ use Rattle.run_model.specs.Snapshot.{before_absent}
 use Rattle.run_model.specs.After.{place_at, after}
 use Rattle.run_model.specs.Act.{act}
 use Rattle.run_model.specs.Next.{next_unit}
-use Rattle.run_model.specs.Kinds.{ProcessRuns, Comes, Kind, Fills, Brings, Copies, ServesWanted, Acts, ProcessComes, Interrupts, Moves, PutsOut, Notes, Begins}
+use Rattle.run_model.specs.Kinds.{ProcessRuns, Comes, Kind, Fills, Brings, Copies, ServesWanted, Acts, ProcessComes, Interrupts, HandsMove, ProcessGoes, Notes, Begins}
 use Rattle.run_model.proofs.NextUnits.{kind_of}
 use Rattle.run_model.proofs.Wanting.{split_absent, none_absent, split_first, split_before, all_present}
 use Rattle.run_laws.specs.Running.{IsRun}
@@ -96,8 +96,8 @@ works A s pid u m d h n = go (kind_of A s u h)
         let k = comes_out A s s.mark p pid m c in
         Entering (subst (λ (x : ℕ). is_out s.place x ≡ true) k.0 k.1) (i ∙ ap (λ (x : ℕ). entries.SwapIn x) k.0)
     go (Interrupts e k i) = absurd (other marks.Interrupt k refl)
-    go (Moves count e k l w i) = absurd (other (marks.Hands count) k refl)
-    go (PutsOut p e k i) = absurd (other (marks.PutOut p) k refl)
+    go (HandsMove count e k l w i) = absurd (other (marks.Hands count) k refl)
+    go (ProcessGoes p e k i) = absurd (other (marks.PutOut p) k refl)
     go (Notes e k i) = absurd (other marks.Audit k refl)
     go (Begins e k i) = absurd (let z : true ≡ false = sym (mark_boundary A s u i) ∙ n in cc)
 

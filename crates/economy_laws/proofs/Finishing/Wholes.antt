@@ -17,7 +17,7 @@ use Rattle.run_model.specs.State.{State, start}
 use Rattle.run_model.specs.Wanted.{locked}
 use Rattle.run_model.specs.After.{after}
 use Rattle.run_model.specs.Next.{when, turn_of, next_turned, last_turned, line_or_turn, next_mark, next_unit}
-use Rattle.run_model.specs.Kinds.{Kind, Fills, Brings, Copies, ServesWanted, Acts, ProcessComes, Interrupts, Moves, PutsOut, Notes, Begins}
+use Rattle.run_model.specs.Kinds.{Kind, Fills, Brings, Copies, ServesWanted, Acts, ProcessComes, Interrupts, HandsMove, ProcessGoes, Notes, Begins}
 use Rattle.run_model.specs.Lawful.{Follows, Reaches, IsLawful, IsFinished}
 use Rattle.run_model.proofs.Followed.{followed_once}
 use Rattle.run_model.proofs.After.{after_count}

@@ -1,6 +1,6 @@
 use lib.Utf8.{encode}
 use Rattle.std.proofs.Common.{ap, ◌∙◌}
-use Rattle.run_files.proofs.ImageNames.{plain_name}
+use Rattle.command_edge.proofs.ImageNames.{plain_name}
 use Rattle.command_words.specs.Words.{is_name, is_image_word}
 use Rattle.command_words.proofs.word.is_image_word.Goals as goal
 

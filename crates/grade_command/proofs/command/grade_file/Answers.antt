@@ -1,7 +1,7 @@
 use Rattle.std.proofs.Common.{ℕ, List, Bor, map}
-use Rattle.command_ending.specs.Ending.{ending_of}
-use Rattle.command_ending.specs.Command.{Faults}
-use Rattle.command_ending.proofs.Makings.{completed}
+use Rattle.command_edge.specs.Ending.{ending_of}
+use Rattle.command_edge.specs.Command.{Faults}
+use Rattle.command_edge.proofs.Makings.{completed}
 use Rattle.question_command.specs.Asking.{Subject}
 use Rattle.grade_command.specs.Reading.{trace_told}
 use Rattle.grade_command.specs.Command.{EndsGrade}

@@ -1,12 +1,12 @@
 use Rattle.std.proofs.Common.{rules, ◌≡◌, ℕ, List, Bor, Vec, Global, Result, Ok, Err, length, map, sym, ap, ◌∙◌, subst, arith}
 use Rattle.vm_facts.specs.declared.entry.Entry.{Entry}
 use Rattle.vm_facts.specs.declared.event.Event.{Event}
-use Rattle.run_files.specs.ImageWords.{image_names, first_images}
+use Rattle.command_edge.specs.ImageWords.{image_names, first_images}
 use Rattle.replay_check.specs.Images.{FlatFile, AreNumbers}
-use Rattle.command_ending.specs.declared.fault.Fault.{Fault}
-use Rattle.command_ending.specs.Named.{AnswersNamed}
-use Rattle.command_ending.specs.Command.{Faults, EndCounted}
-use Rattle.command_ending.proofs.Counting.{none_then, counted_then}
+use Rattle.command_edge.specs.declared.fault.Fault.{Fault}
+use Rattle.command_edge.specs.Named.{AnswersNamed}
+use Rattle.command_edge.specs.Command.{Faults, EndCounted}
+use Rattle.command_edge.proofs.Counting.{none_then, counted_then}
 use Rattle.run_opening.proofs.Lists.{few_started}
 use Rattle.replay_command.specs.Reading.{images_told}
 use Rattle.replay_command.proofs.Replays.{images_counted}

@@ -1,5 +1,5 @@
 use Rattle.std.proofs.Common.{ℕ, List, Bor, map}
-use Rattle.command_ending.specs.Ending.{ending_of}
+use Rattle.command_edge.specs.Ending.{ending_of}
 use Rattle.question_command.specs.Asking.{Subject}
 use Rattle.grade_command.proofs.Comparisons.{graded_ends, verdict_counted, fault_ends}
 use Rattle.grade_command.proofs.command.verdict_from.Goals as goal

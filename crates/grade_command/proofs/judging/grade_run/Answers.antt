@@ -1,8 +1,8 @@
 use Rattle.io_edge.specs.WithFiles.{stores}
 use Rattle.std.proofs.Common.{rules, ◌≡◌, Ok, arith}
 use Rattle.machine_state.proofs.Backing.{backed_on}
-use Rattle.grade_check.specs.Started.TheVariants as starteds
-use Rattle.grade_check.proofs.Ending.{are_among}
+use Rattle.film_core.specs.Started.TheVariants as starteds
+use Rattle.film_core.proofs.Ending.{are_among}
 use Rattle.question_command.proofs.Steps.{begun_over, filming_begun, none_so_far}
 use Rattle.grade_command.proofs.judging.grade_run.Goals as goal
 

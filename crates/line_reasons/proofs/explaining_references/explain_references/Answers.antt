@@ -1,6 +1,6 @@
 use Rattle.std.proofs.Common.{◌∙◌, ℕ, List, Option, Some, None, Ok, Vec, Global, sym, ap}
 use Rattle.std.specs.Option.{option_map}
-use Rattle.reference_text.specs.declared.answers.References.{References}
+use Rattle.reference_answers.specs.declared.references.References.{References}
 use Rattle.line_reasons.specs.ReferenceReasons.{Why, why_at}
 use Rattle.line_reasons.specs.ReferenceExplaining.{why_line, references_explained}
 use Rattle.line_reasons.proofs.Explained.{told_by}

@@ -1,5 +1,5 @@
 use Rattle.std.proofs.Common.{sym, subst}
-use Rattle.command_ending.specs.Ending.{ending_of}
+use Rattle.command_edge.specs.Ending.{ending_of}
 use Rattle.reference_commands.specs.InMemory.{EndsAnswer}
 use Rattle.question_command.specs.declared.asking.FilmQuestion.{FilmQuestion}
 use Rattle.question_command.specs.Asked.{question_of}

@@ -1,6 +1,6 @@
 use Rattle.std.proofs.Common.{List, ℕ, Bor, map, subst}
-use Rattle.command_ending.specs.Ending.{ending_of}
-use Rattle.command_ending.specs.Command.{Faults, Made}
+use Rattle.command_edge.specs.Ending.{ending_of}
+use Rattle.command_edge.specs.Command.{Faults, Made}
 use Rattle.reference_commands.specs.declared.question.Question.TheVariants.{WasCut}
 use Rattle.reference_commands.specs.Reading.{read_told}
 use Rattle.reference_commands.specs.Asking.{Subject}

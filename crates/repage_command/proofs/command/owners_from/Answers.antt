@@ -1,6 +1,6 @@
 use Rattle.std.proofs.Common.{rules, ◌≡◌, ℕ, List, Bor, Err, map, sym, ap, subst}
-use Rattle.command_ending.specs.Ending.{Ending, ending_of}
-use Rattle.command_ending.specs.Command.{Faults, EndCounted, Made}
+use Rattle.command_edge.specs.Ending.{Ending, ending_of}
+use Rattle.command_edge.specs.Command.{Faults, EndCounted, Made}
 use Rattle.replay_command.specs.Reading.{read_of_transcript}
 use Rattle.repage_command.specs.Reading.{inputs_of}
 use Rattle.repage_command.specs.Command.{EndsOwners}

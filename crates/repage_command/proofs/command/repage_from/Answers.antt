@@ -1,6 +1,6 @@
 use Rattle.std.proofs.Common.{rules, ◌≡◌, ℕ, List, Bor, Result, Err, map, sym, subst}
-use Rattle.command_ending.specs.declared.fault.Fault.{Fault}
-use Rattle.command_ending.specs.Command.{Faults, EndCounted, Made}
+use Rattle.command_edge.specs.declared.fault.Fault.{Fault}
+use Rattle.command_edge.specs.Command.{Faults, EndCounted, Made}
 use Rattle.replay_command.specs.Reading.{read_of_transcript}
 use Rattle.repage_command.specs.declared.judging.Repaged.{Repaged}
 use Rattle.repage_command.specs.Reading.{inputs_of}

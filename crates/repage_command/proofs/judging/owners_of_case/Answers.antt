@@ -1,8 +1,8 @@
 use Rattle.std.proofs.Common.{rules, ◌≡◌, ℕ, List, Some, Result, Err, Vec, Global, refl, length, take, sym, ap, ◌∙◌, subst}
 use Rattle.std.specs.Prelude.{nat_le}
 use Rattle.paged_model.specs.declared.line.Line.{Line}
-use Rattle.command_ending.specs.declared.fault.Fault.{Fault}
-use Rattle.command_ending.specs.Ending.{ending_of}
+use Rattle.command_edge.specs.declared.fault.Fault.{Fault}
+use Rattle.command_edge.specs.Ending.{ending_of}
 use Rattle.repage_check.specs.Moves.{HaveFewMoves}
 use Rattle.repage_check.specs.Verdicts.{HasMisstep, IsJudged}
 use Rattle.repage_command.specs.Reading.{inputs_of}

@@ -1,6 +1,6 @@
 use Rattle.std.proofs.Common.{rules, ◌≡◌, List, None, Result, Err, refl, sym, subst}
 use Rattle.paged_model.specs.declared.line.Line.{Line}
-use Rattle.command_ending.specs.declared.fault.Fault.{Fault}
+use Rattle.command_edge.specs.declared.fault.Fault.{Fault}
 use Rattle.repage_check.specs.Verdicts.{HasMisstep, IsJudged}
 use Rattle.repage_command.specs.declared.judging.Repaged.{Repaged}
 use Rattle.repage_command.specs.Reading.{inputs_of}

@@ -1,5 +1,5 @@
 use Rattle.std.proofs.Common.{rules, ◌≡◌, Result, Err, sym, ap, ◌∙◌, subst}
-use Rattle.command_ending.specs.declared.fault.Fault.{Fault}
+use Rattle.command_edge.specs.declared.fault.Fault.{Fault}
 use Rattle.repage_command.specs.declared.judging.Repaged.{Repaged}
 use Rattle.repage_command.specs.Reading.{inputs_of}
 use Rattle.repage_command.specs.Judging.{EndsRepaging}

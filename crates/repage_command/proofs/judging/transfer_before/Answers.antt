@@ -1,8 +1,8 @@
 use Rattle.std.proofs.Common.{rules, ◌≡◌, ℕ, ◌-◌, List, None, Result, Err, take, sym, ap, ◌∙◌, subst}
 use Rattle.std.specs.Prelude.{IfErr}
 use Rattle.paged_model.specs.declared.line.Line.{Line}
-use Rattle.command_ending.specs.declared.fault.Fault.{Fault}
-use Rattle.command_ending.specs.declared.fault.Fault.TheVariants as faults
+use Rattle.command_edge.specs.declared.fault.Fault.{Fault}
+use Rattle.command_edge.specs.declared.fault.Fault.TheVariants as faults
 use Rattle.repage_check.specs.Moves.{HaveFewMoves}
 use Rattle.repage_command.specs.Reading.{inputs_of}
 use Rattle.repage_command.specs.Judging.{TellsJudged}

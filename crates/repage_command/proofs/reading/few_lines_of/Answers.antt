@@ -1,6 +1,6 @@
 use Rattle.std.proofs.Common.{rules, ◌≡◌, inr, Result, Err, Vec, Global, true, false, sym, ◌∙◌, subst}
 use Rattle.paged_model.specs.declared.line.Line.{Line}
-use Rattle.command_ending.specs.declared.fault.Fault.{Fault}
+use Rattle.command_edge.specs.declared.fault.Fault.{Fault}
 use Rattle.replay_command.specs.Reading.{items_of}
 use Rattle.repage_check.specs.Moves.{HaveFewMoves}
 use Rattle.repage_command.specs.Reading.{EndsFew}

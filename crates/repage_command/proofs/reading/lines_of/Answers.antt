@@ -1,5 +1,5 @@
 use Rattle.std.proofs.Common.{subst}
-use Rattle.trace_text.specs.Grammar.{IsReadTrace}
+use Rattle.repage_command.specs.Grammar.{IsReadTrace}
 use Rattle.repage_command.proofs.Readings.{lines_few}
 use Rattle.repage_command.proofs.reading.lines_of.Goals as goal
 

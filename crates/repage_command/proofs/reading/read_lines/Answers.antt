@@ -2,12 +2,12 @@ use Rattle.std.proofs.Common.{inl, ℕ, List, Some, None, Ok, Err, Option, Resul
 use Rattle.std.specs.Option.{option_map}
 use Rattle.io_edge.specs.FileHolding.{NamedFile}
 use Rattle.paged_model.specs.declared.line.Line.{Line}
-use Rattle.run_files.specs.Told.{whole_told}
-use Rattle.command_ending.specs.declared.fault.Fault.{Fault}
-use Rattle.command_ending.specs.declared.fault.Fault.TheVariants as faults
-use Rattle.command_ending.specs.Command.{Faults, FaultCounted, Made}
-use Rattle.command_ending.proofs.Counting.{unread_counted}
-use Rattle.command_ending.proofs.Makings.{made_by}
+use Rattle.command_edge.specs.Told.{whole_told}
+use Rattle.command_edge.specs.declared.fault.Fault.{Fault}
+use Rattle.command_edge.specs.declared.fault.Fault.TheVariants as faults
+use Rattle.command_edge.specs.Command.{Faults, FaultCounted, Made}
+use Rattle.command_edge.proofs.Counting.{unread_counted}
+use Rattle.command_edge.proofs.Makings.{made_by}
 use Rattle.replay_command.specs.Reading.{items_of}
 use Rattle.repage_command.specs.Reading.{EndsFew, EndsTrace}
 use Rattle.repage_command.proofs.Readings.{few_ends, few_counted, unread_trace}

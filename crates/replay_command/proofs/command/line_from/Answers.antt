@@ -1,11 +1,11 @@
 use Rattle.std.proofs.Common.{rules, ◌≡◌, ℕ, List, Ok, Err, Vec, Global, Bor, map, sym, ap, ◌∙◌, subst}
 use Rattle.vm_facts.specs.declared.entry.Entry.{Entry}
-use Rattle.run_files.specs.ImageWords.{image_names, first_images}
+use Rattle.command_edge.specs.ImageWords.{image_names, first_images}
 use Rattle.replay_check.specs.Images.{FlatFile}
-use Rattle.command_ending.specs.Ending.{Ending, ending_of}
-use Rattle.command_ending.specs.Named.{AnswersNamed}
-use Rattle.command_ending.specs.Command.{Faults, EndCounted, Made}
-use Rattle.command_ending.proofs.Counting.{none_then, counted_then}
+use Rattle.command_edge.specs.Ending.{Ending, ending_of}
+use Rattle.command_edge.specs.Named.{AnswersNamed}
+use Rattle.command_edge.specs.Command.{Faults, EndCounted, Made}
+use Rattle.command_edge.proofs.Counting.{none_then, counted_then}
 use Rattle.replay_command.specs.Reading.{images_told, read_of_transcript}
 use Rattle.replay_command.specs.Command.{EndsVerdict, EndsReplay}
 use Rattle.replay_command.proofs.Replays.{transcript_ends, refused, images_counted, images_end, verdict_counted, judged_ends}

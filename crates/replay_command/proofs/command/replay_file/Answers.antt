@@ -1,7 +1,7 @@
 use Rattle.std.proofs.Common.{ℕ, List, Bor, map}
-use Rattle.command_ending.specs.Ending.{ending_of}
-use Rattle.command_ending.specs.Command.{Faults}
-use Rattle.command_ending.proofs.Makings.{completed}
+use Rattle.command_edge.specs.Ending.{ending_of}
+use Rattle.command_edge.specs.Command.{Faults}
+use Rattle.command_edge.proofs.Makings.{completed}
 use Rattle.replay_command.specs.Reading.{read_of_transcript}
 use Rattle.replay_command.specs.Command.{EndsReplay}
 use Rattle.replay_command.proofs.command.replay_file.Goals as goal

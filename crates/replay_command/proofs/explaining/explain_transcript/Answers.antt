@@ -1,12 +1,12 @@
 use Rattle.std.proofs.Common.{◌≡◌, ℕ, List, Option, Result, Ok, Err, Vec, Global, Bor, IfOk, map, option_map, refl, sym, ap, ◌∙◌, subst, rules}
 use Rattle.vm_facts.specs.declared.entry.Entry.{Entry}
 use Rattle.vm_facts.specs.declared.stop.NoMemory.{NoMemory}
-use Rattle.run_files.specs.ImageWords.{image_names}
+use Rattle.command_edge.specs.ImageWords.{image_names}
 use Rattle.std.specs.Prelude.{IfErr}
 use Rattle.replay_check.specs.Images.{FlatFile, images_of}
-use Rattle.command_ending.specs.declared.fault.Fault.{Fault}
-use Rattle.command_ending.specs.Named.{AnswersNamed}
-use Rattle.command_ending.specs.Command.{Faults}
+use Rattle.command_edge.specs.declared.fault.Fault.{Fault}
+use Rattle.command_edge.specs.Named.{AnswersNamed}
+use Rattle.command_edge.specs.Command.{Faults}
 use Rattle.replay_command.specs.Reading.{images_told}
 use Rattle.replay_command.specs.Explaining.{Explained, LacksTranscript}
 use Rattle.replay_command.proofs.Replays.{transcript_ends, refused, images_end}

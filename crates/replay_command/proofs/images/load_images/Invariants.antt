@@ -3,7 +3,7 @@ use Rattle.std.proofs.Common.{◌≡◌, List, Some, length, map, take, drop}
 use Rattle.std.specs.Prelude.{All}
 use Rattle.io_edge.specs.FileHolding.{NamedFile}
 use Rattle.replay_check.specs.Images.{IsImageFile}
-use Rattle.command_ending.proofs.Behind.{behind}
+use Rattle.command_edge.proofs.Behind.{behind}
 use Rattle.replay_command.specs.Reading.{images_told}
 use Rattle.replay_command.proofs.images.load_images.Given as goal
 

@@ -2,11 +2,11 @@ use Rattle.std.proofs.Common.{ℕ, List, Some, Ok, Err, Option, Result, Vec, Glo
 use Rattle.std.specs.Option.{option_map}
 use Rattle.io_edge.specs.FileHolding.{NamedFile}
 use Rattle.vm_facts.specs.declared.entry.Entry.{Entry}
-use Rattle.run_files.specs.Told.{whole_told}
-use Rattle.command_ending.specs.declared.fault.Fault.{Fault}
-use Rattle.command_ending.specs.Command.{Faults, FaultCounted, Made}
-use Rattle.command_ending.proofs.Counting.{unread_counted}
-use Rattle.command_ending.proofs.Makings.{made_by}
+use Rattle.command_edge.specs.Told.{whole_told}
+use Rattle.command_edge.specs.declared.fault.Fault.{Fault}
+use Rattle.command_edge.specs.Command.{Faults, FaultCounted, Made}
+use Rattle.command_edge.proofs.Counting.{unread_counted}
+use Rattle.command_edge.proofs.Makings.{made_by}
 use Rattle.replay_command.specs.Reading.{EndsLines, EndsTranscript, items_of}
 use Rattle.replay_command.proofs.Transcripts.{ends_read, lines_counted, unread_transcript}
 use Rattle.replay_command.proofs.transcript.read_entries.Goals as goal

@@ -6,7 +6,7 @@ use Rattle.machine_state.specs.Machine.{Standing}
 use Rattle.vm_core.specs.RunEnds.{IsAskedOf}
 use Rattle.run_opening.specs.declared.images.OpenedImage.{OpenedImage}
 use Rattle.run_text.specs.Transcript.{HaveNumbers}
-use Rattle.command_ending.specs.declared.fault.Fault.TheVariants.{JournalFull}
+use Rattle.command_edge.specs.declared.fault.Fault.TheVariants.{JournalFull}
 use Rattle.run_command.specs.Seen.{Seen}
 use Rattle.run_command.specs.Naming.{shown_as}
 use Rattle.run_command.specs.Machines.{journal_entries, machine_of, IsOfOpening}

@@ -7,8 +7,8 @@ use Rattle.machine_state.specs.New.{AreSound}
 use Rattle.machine_state.specs.Applying.{facts_named}
 use Rattle.machine_state.specs.Sourced.{AreNames}
 use Rattle.vm_core.specs.Schedules.{HaveFewMoves}
-use Rattle.command_ending.specs.declared.fault.Fault.{Fault}
-use Rattle.command_ending.specs.declared.fault.Fault.TheVariants as faults
+use Rattle.command_edge.specs.declared.fault.Fault.{Fault}
+use Rattle.command_edge.specs.declared.fault.Fault.TheVariants as faults
 use Rattle.run_opening.specs.declared.images.OpenedImage.{OpenedImage}
 use Rattle.run_opening.specs.Devices.{device_fault}
 use Rattle.run_opening.specs.Images.{images_found, images_in, IsIn}

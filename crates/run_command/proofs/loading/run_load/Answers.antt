@@ -4,7 +4,7 @@ use Rattle.io_edge.specs.FileHolding.{named_file}
 use Rattle.machine_state.specs.Machine.{Standing}
 use Rattle.vm_core.specs.FirstProcesses.{StartsFrom}
 use Rattle.vm_core.specs.RunEnds.{IsAskedOf}
-use Rattle.command_ending.specs.declared.fault.Fault.TheVariants.{JournalFull}
+use Rattle.command_edge.specs.declared.fault.Fault.TheVariants.{JournalFull}
 use Rattle.run_command.specs.Loads.{load_first, WritesCounts}
 use Rattle.run_command.proofs.Early.{left_together, load_early}
 use Rattle.run_command.proofs.Loadings.{load_ran, load_unmade}

@@ -3,8 +3,8 @@ use Rattle.io_edge.specs.FileHolding.{NamedFile, HasRange}
 use Rattle.aout_image.specs.Image.{IsSound, file_length_of}
 use Rattle.run_opening.specs.declared.images.OpenedImage.{OpenedImage}
 use Rattle.run_opening.specs.Images.{IsIn}
-use Rattle.command_ending.specs.declared.fault.Fault.{Fault}
-use Rattle.command_ending.specs.declared.fault.Fault.TheVariants as faults
+use Rattle.command_edge.specs.declared.fault.Fault.{Fault}
+use Rattle.command_edge.specs.declared.fault.Fault.TheVariants as faults
 use Rattle.run_opening.specs.Asked.{AsksImages}
 use Rattle.run_opening.proofs.Asking.{front_on, headers_taken, headers_all, some_next, some_so_far}
 use Rattle.run_opening.proofs.Finding.{answers_more, names_more, All-pushed}

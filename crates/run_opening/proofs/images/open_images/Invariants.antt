@@ -3,7 +3,7 @@ use Rattle.std.proofs.Common.{◌≡◌, List, Some, map, take, drop}
 use Rattle.std.specs.Prelude.{All}
 use Rattle.io_edge.specs.FileHolding.{NamedFile, HasRange}
 use Rattle.aout_image.specs.Image.{IsSound, file_length_of}
-use Rattle.command_ending.proofs.Behind.{behind}
+use Rattle.command_edge.proofs.Behind.{behind}
 use Rattle.run_opening.specs.Asked.{AsksHeaders}
 use Rattle.run_opening.specs.Images.{images_found, images_in, IsIn}
 use Rattle.run_opening.proofs.images.open_images.Given as goal

@@ -1,7 +1,7 @@
 use Rattle.std.proofs.Common.{◌≡◌, Result, Err, refl, sym, ap, ◌∙◌, subst}
-use Rattle.run_files.specs.declared.answers.Unread.TheVariants as unreads
-use Rattle.command_ending.specs.declared.fault.Fault.{Fault}
-use Rattle.command_ending.specs.Ending.{fault_of}
+use Rattle.command_edge.specs.declared.answers.Unread.TheVariants as unreads
+use Rattle.command_edge.specs.declared.fault.Fault.{Fault}
+use Rattle.command_edge.specs.Ending.{fault_of}
 use Rattle.run_opening.specs.Asked.{header_bytes, IsAbout}
 use Rattle.run_opening.proofs.Asking.{front_for, about_unread}
 use Rattle.run_opening.specs.declared.images.OpenedImage.{OpenedImage}

@@ -1,10 +1,10 @@
 -- Each part ends the opening, or lets it go on.
 use Rattle.std.proofs.Common.{rules, ◌≡◌, ℕ, List, Bor, None, Result, Ok, Err, Vec, Global, refl, sym, ap, ◌∙◌, subst}
-use Rattle.run_files.specs.ImageWords.{image_names, first_images}
-use Rattle.command_ending.specs.declared.fault.Fault.{Fault}
-use Rattle.command_ending.specs.declared.fault.Fault.TheVariants as faults
-use Rattle.command_ending.specs.Named.{AnswersNamed}
-use Rattle.command_ending.specs.Command.{Faults}
+use Rattle.command_edge.specs.ImageWords.{image_names, first_images}
+use Rattle.command_edge.specs.declared.fault.Fault.{Fault}
+use Rattle.command_edge.specs.declared.fault.Fault.TheVariants as faults
+use Rattle.command_edge.specs.Named.{AnswersNamed}
+use Rattle.command_edge.specs.Command.{Faults}
 use Rattle.run_opening.specs.declared.images.OpenedImage.{OpenedImage}
 use Rattle.run_opening.specs.declared.opening.Opening.{Opening}
 use Rattle.run_opening.specs.Images.{images_found, images_in}

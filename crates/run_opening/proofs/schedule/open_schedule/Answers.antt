@@ -2,12 +2,12 @@
 use Rattle.std.proofs.Common.{List, ℕ, Result, Err, Vec, Global, refl, sym, ap, ◌∙◌, ◌≡◌, subst}
 use Rattle.io_edge.specs.FileHolding.{NamedFile}
 use Rattle.vm_facts.specs.declared.event.Event.{Event}
-use Rattle.command_ending.specs.declared.fault.Fault.{Fault}
-use Rattle.command_ending.specs.Command.{Faults, Made}
+use Rattle.command_edge.specs.declared.fault.Fault.{Fault}
+use Rattle.command_edge.specs.Command.{Faults, Made}
 use Rattle.run_opening.specs.Schedules.{schedule_bytes, schedule_found, EndsEvents, EndsSchedule}
 use Rattle.run_opening.proofs.Schedules.{schedule_read, schedule_unread}
-use Rattle.run_files.specs.declared.answers.Unread.TheVariants as unreads
-use Rattle.command_ending.specs.Ending.{fault_of}
+use Rattle.command_edge.specs.declared.answers.Unread.TheVariants as unreads
+use Rattle.command_edge.specs.Ending.{fault_of}
 use Rattle.run_opening.proofs.Asking.{front_for}
 use Rattle.run_opening.proofs.schedule.open_schedule.Goals as goal
 

@@ -1,10 +1,10 @@
 use Rattle.std.proofs.Common.{List}
 use Rattle.io_edge.specs.FileHolding.{NamedFile}
-use Rattle.run_files.specs.Told.{image_told}
-use Rattle.command_ending.specs.Ending.{ending_of}
-use Rattle.command_ending.specs.Command.{Faults}
+use Rattle.command_edge.specs.Told.{image_told}
+use Rattle.command_edge.specs.Ending.{ending_of}
+use Rattle.command_edge.specs.Command.{Faults}
 use Rattle.source_commands.specs.Command.{EndsListing}
-use Rattle.command_ending.proofs.Makings.{completed}
+use Rattle.command_edge.proofs.Makings.{completed}
 use Rattle.source_commands.proofs.listing.list_file.Goals as goal
 
 pub returns-clause-lists : goal.returns-clause-lists

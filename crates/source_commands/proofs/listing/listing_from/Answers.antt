@@ -1,15 +1,15 @@
 use Rattle.std.proofs.Common.{◌+◌, List, ℕ, Ok, Err, sym, ap, ◌∙◌, subst}
 use Rattle.io_edge.specs.FileHolding.{NamedFile}
-use Rattle.run_files.specs.declared.answers.Loaded.{Loaded}
-use Rattle.run_files.specs.declared.answers.Unread.TheVariants as unreads
-use Rattle.run_files.specs.Told.{image_told}
-use Rattle.command_ending.specs.declared.fault.Fault.{Fault}
-use Rattle.command_ending.specs.declared.fault.Fault.TheVariants.{NoMemory}
+use Rattle.command_edge.specs.declared.answers.Loaded.{Loaded}
+use Rattle.command_edge.specs.declared.answers.Unread.TheVariants as unreads
+use Rattle.command_edge.specs.Told.{image_told}
+use Rattle.command_edge.specs.declared.fault.Fault.{Fault}
+use Rattle.command_edge.specs.declared.fault.Fault.TheVariants.{NoMemory}
 use Rattle.source_commands.specs.Listing.{IsListing, code_at}
-use Rattle.command_ending.specs.Command.{Faults, FaultCounted, Made}
-use Rattle.command_ending.proofs.Counting.{unloaded_counted}
+use Rattle.command_edge.specs.Command.{Faults, FaultCounted, Made}
+use Rattle.command_edge.proofs.Counting.{unloaded_counted}
 use Rattle.source_commands.specs.Command.{EndsListing}
-use Rattle.command_ending.proofs.Makings.{made_by, made_nothing}
+use Rattle.command_edge.proofs.Makings.{made_by, made_nothing}
 use Rattle.source_commands.proofs.Makings.{unread_image}
 use Rattle.source_commands.proofs.listing.listing_from.Goals as goal
 

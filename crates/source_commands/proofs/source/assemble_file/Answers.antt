@@ -1,10 +1,10 @@
 use Rattle.std.proofs.Common.{List}
 use Rattle.io_edge.specs.FileHolding.{NamedFile}
-use Rattle.run_files.specs.Told.{bytes_told}
-use Rattle.command_ending.specs.Ending.{ending_of}
-use Rattle.command_ending.specs.Command.{Faults}
+use Rattle.command_edge.specs.Told.{bytes_told}
+use Rattle.command_edge.specs.Ending.{ending_of}
+use Rattle.command_edge.specs.Command.{Faults}
 use Rattle.source_commands.specs.Command.{EndsAssembly, source_bytes}
-use Rattle.command_ending.proofs.Makings.{completed}
+use Rattle.command_edge.proofs.Makings.{completed}
 use Rattle.source_commands.proofs.source.assemble_file.Goals as goal
 
 pub returns-clause-assembles : goal.returns-clause-assembles

@@ -1,15 +1,15 @@
 use Rattle.std.proofs.Common.{List, ℕ, Ok, Err, Vec, Global, sym, subst}
 use Rattle.io_edge.specs.FileHolding.{NamedFile}
 use Rattle.vax_asm.specs.Program.{IsProgramOf, IsFirstBad, AssemblesAs}
-use Rattle.run_files.specs.declared.answers.Unread.TheVariants as unreads
-use Rattle.run_files.specs.Told.{bytes_told}
-use Rattle.command_ending.specs.declared.fault.Fault.{Fault}
-use Rattle.command_ending.specs.declared.fault.Fault.TheVariants.{NoMemory, BadSource}
-use Rattle.command_ending.specs.Command.{Faults, FaultCounted, Made}
-use Rattle.command_ending.proofs.Counting.{unread_counted}
+use Rattle.command_edge.specs.declared.answers.Unread.TheVariants as unreads
+use Rattle.command_edge.specs.Told.{bytes_told}
+use Rattle.command_edge.specs.declared.fault.Fault.{Fault}
+use Rattle.command_edge.specs.declared.fault.Fault.TheVariants.{NoMemory, BadSource}
+use Rattle.command_edge.specs.Command.{Faults, FaultCounted, Made}
+use Rattle.command_edge.proofs.Counting.{unread_counted}
 use Rattle.source_commands.specs.Command.{EndsAssembly}
 use Rattle.source_commands.proofs.Limits.{program_limit}
-use Rattle.command_ending.proofs.Makings.{made_by, made_nothing}
+use Rattle.command_edge.proofs.Makings.{made_by, made_nothing}
 use Rattle.source_commands.proofs.Makings.{unread_source}
 use Rattle.source_commands.proofs.source.file_from.Goals as goal
 

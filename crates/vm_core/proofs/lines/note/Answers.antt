@@ -1,5 +1,5 @@
 use Rattle.std.proofs.lemmas.Result.{on_ok_weaker}
-use Rattle.journal_laws.specs.Stops.{StopsBefore}
+use Rattle.swapper.specs.Stops.{StopsBefore}
 use Rattle.step_units.specs.Sizes.{KeptAtStop}
 use Rattle.step_units.proofs.StopsKeep.{before_same}
 use Rattle.vm_core.proofs.Noting.{stops_noting, stops_weaker}

@@ -1,5 +1,5 @@
 use Rattle.std.proofs.Common.{sym, ◌∙◌}
-use Rattle.run_files.specs.ImageWords.{starts}
+use Rattle.command_edge.specs.ImageWords.{starts}
 use Rattle.command_words.proofs.WordLists.{some_then, some_else}
 use Rattle.command_words.proofs.image_words.ImageWords.starts_some.Goals as goal
 

@@ -1,0 +1,7 @@
+pub mod Answering
+pub mod Told
+pub mod Asked
+pub mod ImageWords
+pub mod Ending
+pub mod Named
+pub mod Command

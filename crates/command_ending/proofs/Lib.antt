@@ -1,4 +1,0 @@
-pub mod Behind
-pub mod Counting
-pub mod Makings
-pub mod Statuses

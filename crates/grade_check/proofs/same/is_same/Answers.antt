@@ -1,5 +1,0 @@
-use Rattle.grade_check.proofs.Entries.{one_exactly}
-use Rattle.grade_check.proofs.same.is_same.Goals as goal
-
-pub returns : goal.returns
-returns c = one_exactly c.args.entry.now c.args.other.now c.is_one_entry.result c.is_one_entry.ensures

@@ -1,5 +1,0 @@
-use Rattle.journal_laws.proofs.Stretches.{units_economical}
-use Rattle.journal_laws.proofs.laws.units_are_economical.Goals as goal
-
-pub returns : goal.returns
-returns c = λ A s t us images r l f. units_economical A s t us images r f l

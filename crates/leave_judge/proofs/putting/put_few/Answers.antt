@@ -1,6 +1,0 @@
-use Rattle.std.proofs.Common.{sym, ◌∙◌}
-use Rattle.leave_judge.proofs.Puts.{seat_true}
-use Rattle.leave_judge.proofs.putting.put_few.Goals as goal
-
-pub is_dirty_seat-requires-clause-seated : goal.is_dirty_seat-requires-clause-seated
-is_dirty_seat-requires-clause-seated c = seat_true c.args.m.now.kernel.place c.args.page (sym c.unseated.ensures ∙ c.in-None.is)

@@ -1,0 +1,11 @@
+use Rattle.std.proofs.Common.{subst}
+use Rattle.move_judge.specs.Records.{IsRecord}
+use Rattle.move_judge.proofs.Residents.{none_in}
+use Rattle.move_judge.proofs.leaving.in_clear.Goals as goal
+
+pub in_of-requires-clause-known : goal.in_of-requires-clause-known
+in_of-requires-clause-known c = subst (IsRecord c.args.m.now.kernel c.args.pid) c.in-Some.is c.record_of.ensures
+
+pub returns-in-None-clause-judged : goal.returns-in-None-clause-judged
+returns-in-None-clause-judged c = λ F t o.
+    none_in c.args.m.now.kernel F c.args.pid t (subst (IsRecord c.args.m.now.kernel c.args.pid) c.in-None.is c.record_of.ensures)

@@ -1,5 +1,0 @@
-use Rattle.owner_laws.proofs.Telling.{frames_told_so}
-use Rattle.owner_laws.proofs.laws.frames_are_told.Goals as goal
-
-pub returns : goal.returns
-returns c = frames_told_so

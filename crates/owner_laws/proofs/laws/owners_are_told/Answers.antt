@@ -1,5 +1,0 @@
-use Rattle.owner_laws.proofs.Telling.{owners_told_so}
-use Rattle.owner_laws.proofs.laws.owners_are_told.Goals as goal
-
-pub returns : goal.returns
-returns c = owners_told_so

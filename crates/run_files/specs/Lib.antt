@@ -1,4 +1,0 @@
-pub mod Answering
-pub mod Told
-pub mod Asked
-pub mod ImageWords

@@ -1,6 +1,0 @@
-use Rattle.run_text.specs.Lines.{lines_in}
-use Rattle.trace_text.proofs.Lines.{entry_lines}
-use Rattle.trace_text.proofs.laws.transcripts_are_traces.Goals as goal
-
-pub returns : goal.returns
-returns c = λ bytes es h. entry_lines es (lines_in bytes) h

@@ -1,6 +1,0 @@
--- A line that begins as no part's, and is of no entry.
-use Rattle.trace_text.proofs.Lines.{no_entry}
-use Rattle.trace_text.proofs.trace_reader.read_entry.Goals as goal
-
-pub returns-in-None : goal.returns-in-None
-returns-in-None c = no_entry c.args.line.now c.requires (rw c.in-None.is at c.in_ok-entry.ensures)

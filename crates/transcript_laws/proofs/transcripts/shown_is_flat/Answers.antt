@@ -1,8 +1,0 @@
-use Rattle.transcript_laws.proofs.Shown.{shown_run, shown_count}
-use Rattle.transcript_laws.proofs.transcripts.shown_is_flat.Goals as goal
-
-pub returns-clause-run : goal.returns-clause-run
-returns-clause-run c = shown_run
-
-pub returns-clause-count : goal.returns-clause-count
-returns-clause-count c = shown_count
