@@ -49,7 +49,7 @@ class Lab:
 
     def __exit__(self, *_):
         self.process.terminate()
-        self.process.wait(20)
+        self.process.wait(60)
         self.process.stdout.close()
         self.said.close()
 
