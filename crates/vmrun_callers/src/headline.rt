@@ -1,5 +1,5 @@
 //! A caller of `vmrun` of which nothing but the headline is promised. So each body that spoils the headline is
-//! refused by that clause alone; must-fail/ has four of them.
+//! refused by that clause alone; edits/ has four of them.
 ghost use Rattle.std.specs.Prelude.{map};
 ghost use Rattle.command_edge.specs.Command.{Writes};
 ghost use Rattle.command_words.specs.Asked.{request_of};
