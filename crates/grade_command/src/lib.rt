@@ -12,4 +12,3 @@ mod same;
 pub use command::grade_file;
 pub use explaining::explain_grade;
 pub use laws::traces_have_one_grade;
-pub use question_command;

@@ -9,7 +9,7 @@ use Rattle.command_edge.specs.declared.fault.Fault.TheVariants as faults
 use Rattle.command_edge.specs.Ending.{Ending}
 use Rattle.command_edge.specs.Command.{Faults, NoFaults, EndCounted}
 use Rattle.replay_command.specs.Reading.{Read}
-use Rattle.grade_command.specs.InMemory.{inputs_with}
+use Rattle.question_command.specs.InMemory.{inputs_with}
 use Rattle.repage_check.specs.Verdicts.{HasMisstep}
 use Rattle.repage_command.specs.declared.judging.Repaged.{Repaged}
 use Rattle.repage_command.specs.declared.reading.Case.{Case}

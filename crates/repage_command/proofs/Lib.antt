@@ -1,4 +1,3 @@
-pub use Rattle.grade_command.proofs.Found
 pub mod PartTexts
 pub mod TraceLines
 mod Readings

@@ -15,7 +15,7 @@ use Rattle.command_edge.specs.declared.fault.Fault.TheVariants.{NoSpace, NotPage
 use Rattle.command_edge.specs.Ending.{Ending}
 use Rattle.command_edge.specs.Command.{Faults, NoFaults, Completes}
 use Rattle.replay_command.specs.Reading.{Read, read_of_transcript}
-use Rattle.grade_command.specs.InMemory.{inputs_with}
+use Rattle.question_command.specs.InMemory.{inputs_with}
 use Rattle.repage_command.specs.declared.judging.Repaged.{Repaged}
 use Rattle.repage_command.specs.Telling.{paged_line}
 use Rattle.repage_command.specs.Judging.{TellsRepaged, TellsOwners}

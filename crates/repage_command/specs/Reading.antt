@@ -16,7 +16,7 @@ use Rattle.command_edge.specs.Named.{Why}
 use Rattle.command_edge.specs.Command.{Faults, NoFaults, OpenFailed, FailedBehind}
 use Rattle.replay_command.specs.LastLine.{without_fault_line}
 use Rattle.replay_command.specs.Reading.{Read}
-use Rattle.grade_command.specs.InMemory.{inputs_with, IsRunnable, AllDiffer}
+use Rattle.question_command.specs.InMemory.{inputs_with, IsRunnable, AllDiffer}
 use Rattle.repage_check.specs.Moves.{HaveFewMoves}
 use Rattle.repage_command.specs.declared.reading.Case.{Case}
 

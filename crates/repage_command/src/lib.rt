@@ -14,7 +14,6 @@ mod trace_reader;
 
 pub use command::{repage_file, repage_owners};
 pub use explaining::explain_repage;
-pub use grade_command;
 pub use laws::transcripts_are_traces;
 pub use trace::Trace;
 pub use trace_reader::read_trace;

@@ -6,9 +6,9 @@ ghost use Rattle.replay_command.specs.Explaining.{around_number};
 ghost use Rattle.repage_command.specs.Telling.{page_words, around_page, state_words, reason_words, line_text, line_words, misstep_line};
 
 use command_edge::put_number;
-use grade_command::question_command::entry_line;
 use kernel_model::HandPart;
 use paged_model::{Line, Reason};
+use question_command::entry_line;
 use std::alloc::{AllocError, Global};
 use vm_facts::{Entry, Page, PageState};
 

@@ -7,11 +7,11 @@ use Rattle.vm_facts.specs.declared.entry.Entry.{Entry}
 use Rattle.command_edge.specs.declared.fault.Fault.TheVariants.{Absent, NotImage, BadSchedule, FileFault, SwapReadFault, SwapWriteFault, NoMemory, JournalFull, NoSpace, ShortDevice}
 use Rattle.command_edge.specs.Command.{Writes, All, Prefix}
 use Rattle.command_words.specs.Asked.{Request}
-use Rattle.repage_command.specs.Seen.{Seen}
-use Rattle.repage_command.specs.Machines.{journal_entries}
-use Rattle.repage_command.specs.RunCommandEnds.{RunEnding, run_status, DevicesSuffice, IsCaused, IsJudged, EndsTold}
-use Rattle.repage_command.specs.Loads.{load_numbers, IsLoadCaused}
-use Rattle.repage_command.proofs.Found.{no_absent, no_bad_event, no_failed_image}
+use Rattle.question_command.specs.Seen.{Seen}
+use Rattle.question_command.specs.Machines.{journal_entries}
+use Rattle.question_command.specs.RunCommandEnds.{RunEnding, run_status, DevicesSuffice, IsCaused, IsJudged, EndsTold}
+use Rattle.question_command.specs.Loads.{load_numbers, IsLoadCaused}
+use Rattle.question_command.proofs.Found.{no_absent, no_bad_event, no_failed_image}
 use Rattle.vm_run.specs.Complete.{IsWellTold, NoneRose, RunsComplete, LoadsComplete, ToldLoadsComplete}
 
 -- what was written whole has the status of its ending

@@ -6,9 +6,9 @@ use Rattle.command_words.specs.Asked.{Request, Asked, Run, Load, Replay, Assembl
 use Rattle.command_edge.specs.declared.fault.Fault.TheVariants as faults
 use Rattle.command_edge.specs.Ending.{Ending, status_of as status_of_ending}
 use Rattle.command_edge.specs.Command.{Faults, NoFaults, EndCounted, Writes, All, Prefix, Completes}
-use Rattle.repage_command.specs.Seen.{Seen, NoneFailed}
-use Rattle.repage_command.specs.RunCommandEnds.{RunEnding, run_status, NothingDone, Unbegun, NoneFaulted, PageFailedAlone, ReadFailedAlone, WriteFailedAlone, IsCaused}
-use Rattle.repage_command.specs.Loads.{IsLoadCaused}
+use Rattle.question_command.specs.Seen.{Seen, NoneFailed}
+use Rattle.question_command.specs.RunCommandEnds.{RunEnding, run_status, NothingDone, Unbegun, NoneFaulted, PageFailedAlone, ReadFailedAlone, WriteFailedAlone, IsCaused}
+use Rattle.question_command.specs.Loads.{IsLoadCaused}
 use Rattle.vm_run.specs.Obeying.{Obeys, LeavesFiles, LeavesDevice}
 use Rattle.vm_run.specs.Failing.{FileFailedAlone, FailedOnce, NoCall, FileCall, ReadCall, WriteCall, FailsByStatus}
 

@@ -1,4 +1,4 @@
-pub use Rattle.repage_command.proofs.Found
+pub use Rattle.question_command.proofs.Found
 pub mod Completing
 pub mod Failed
 pub mod Telling

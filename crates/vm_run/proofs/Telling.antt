@@ -8,10 +8,10 @@ use Rattle.command_edge.specs.Ending.{Ending as CommandEnding}
 use Rattle.command_edge.specs.Command.{Faults, Writes, Completes}
 use Rattle.run_text.specs.Text.{text_of}
 use Rattle.io_edge.specs.Octets.{AreOctetFiles}
-use Rattle.repage_command.specs.Headlines.{Says}
-use Rattle.repage_command.specs.RunCommandEnds.{ending_line, run_status}
-use Rattle.repage_command.specs.Seen.{Seen}
-use Rattle.repage_command.specs.Paired.{image_together}
+use Rattle.question_command.specs.Headlines.{Says}
+use Rattle.question_command.specs.RunCommandEnds.{ending_line, run_status}
+use Rattle.question_command.specs.Seen.{Seen}
+use Rattle.question_command.specs.Paired.{image_together}
 use Rattle.vm_run.specs.Obeying.{Obeys}
 use Rattle.vm_run.specs.Headline.{CarriesFor}
 use Rattle.vm_run.specs.InMemory.{blank_pair, seen_of, CompletesTold, ObeysTold, HeadlineInMemory}

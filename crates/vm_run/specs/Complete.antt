@@ -7,11 +7,11 @@ use Rattle.flat_state.specs.Flat.{Inputs}
 use Rattle.flat_model.specs.Asked.{start_held}
 use Rattle.io_edge.specs.Octets.{AreOctetFiles}
 use Rattle.command_words.specs.Asked.{Request}
-use Rattle.repage_command.specs.RunCommandAsking.{AsksFor}
-use Rattle.repage_command.specs.Seen.{Seen, DeviceFailed}
-use Rattle.repage_command.specs.Machines.{journal_entries}
-use Rattle.repage_command.specs.RunCommandEnds.{DevicesSuffice, AllGood, Runs}
-use Rattle.repage_command.specs.Loads.{load_numbers, Loads}
+use Rattle.question_command.specs.RunCommandAsking.{AsksFor}
+use Rattle.question_command.specs.Seen.{Seen, DeviceFailed}
+use Rattle.question_command.specs.Machines.{journal_entries}
+use Rattle.question_command.specs.RunCommandEnds.{DevicesSuffice, AllGood, Runs}
+use Rattle.question_command.specs.Loads.{load_numbers, Loads}
 
 -- Files and swap are told, the schedule, the images and the devices are good, and the first processes' pieces find their places.
 pub record IsWellTold (request : Request) (seen : Seen) (files : List NamedFile) (image : SwapImage) : Type 0 where

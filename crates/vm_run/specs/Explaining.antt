@@ -12,9 +12,9 @@ use Rattle.command_words.specs.Explaining.{words_explained}
 use Rattle.source_commands.specs.Explaining.{ExplainsSource, LacksSource}
 use Rattle.replay_command.specs.Explaining.{ExplainsTranscript, LacksTranscript}
 use Rattle.line_reasons.specs.ScheduleExplaining.{ExplainsSchedule, LacksSchedule}
-use Rattle.repage_command.specs.Asking.{Subject}
-use Rattle.repage_command.specs.QuestionCommandExplaining.{ExplainsLimit, LacksLimit}
-use Rattle.repage_command.specs.GradeCommandExplaining.{ExplainsGrade, LacksPolicy}
+use Rattle.question_command.specs.Asking.{Subject}
+use Rattle.question_command.specs.Explaining.{ExplainsLimit, LacksLimit}
+use Rattle.grade_command.specs.Explaining.{ExplainsGrade, LacksPolicy}
 use Rattle.repage_command.specs.Explaining.{ExplainsRepage, LacksWhy}
 use Rattle.line_reasons.specs.ReferenceExplaining.{ExplainsReferences, LacksReferences}
 

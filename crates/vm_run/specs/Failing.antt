@@ -2,8 +2,8 @@
 use Rattle.std.specs.Prelude.{◌≡◌, ◌⊎◌, ◌<◌, ℕ}
 use Rattle.io_edge.specs.Count.{Rose}
 use Rattle.command_edge.specs.Command.{OneFailed}
-use Rattle.repage_command.specs.Seen.{Seen, NoneFailed}
-use Rattle.repage_command.specs.RunCommandEnds.{NoneFaulted, ReadFailedAlone, WriteFailedAlone}
+use Rattle.question_command.specs.Seen.{Seen, NoneFailed}
+use Rattle.question_command.specs.RunCommandEnds.{NoneFaulted, ReadFailedAlone, WriteFailedAlone}
 
 -- one call of a file failed, and none of a swap device
 pub record FileFailedAlone (seen : Seen) : Type 0 where

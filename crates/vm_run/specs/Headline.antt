@@ -3,7 +3,7 @@ use Rattle.std.specs.Prelude.{ℕ, List, Option, Some, None}
 use Rattle.vm_facts.specs.SwapImages.{SwapImage}
 use Rattle.io_edge.specs.FileHolding.{NamedFile}
 use Rattle.command_words.specs.Asked.{Request}
-use Rattle.repage_command.specs.Headlines.{CarriesHeadline}
+use Rattle.question_command.specs.Headlines.{CarriesHeadline}
 
 -- The headline holds of a run, where the words ask for one. It goes by the files and by the images of both devices, where they are
 -- told, by the blocks of both, and by the output and its faults before and after.

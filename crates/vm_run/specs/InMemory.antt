@@ -15,20 +15,20 @@ use Rattle.command_edge.specs.Command.{Faults, Writes, WritesEnding}
 use Rattle.source_commands.specs.Command.{source_bytes, EndsAssembly, EndsListing}
 use Rattle.replay_command.specs.Reading.{read_of_transcript as replay_told}
 use Rattle.replay_command.specs.Command.{EndsReplay}
-use Rattle.repage_command.specs.Seen.{Seen}
-use Rattle.repage_command.specs.Machines.{journal_entries}
-use Rattle.repage_command.specs.Paired.{image_together}
-use Rattle.repage_command.specs.Headlines.{Says}
-use Rattle.repage_command.specs.RunCommandEnds.{RunEnding, run_status, ending_line, Writing, IsCaused, IsJudged, EndsTold}
-use Rattle.repage_command.specs.Loads.{load_written, finished_lines, IsLoadCaused, LoadEnded}
-use Rattle.repage_command.specs.Question.{Question}
-use Rattle.repage_command.specs.Question.TheVariants as questions
-use Rattle.repage_command.specs.ReferenceCommandsReading.{read_told}
-use Rattle.repage_command.specs.Answering.{blank_swap}
-use Rattle.repage_command.specs.Asking.{Subject}
-use Rattle.repage_command.specs.Ends.{EndsQuestion}
-use Rattle.repage_command.specs.GradeCommandReading.{trace_told}
-use Rattle.repage_command.specs.GradeCommandCommand.{EndsGrade}
+use Rattle.question_command.specs.Seen.{Seen}
+use Rattle.question_command.specs.Machines.{journal_entries}
+use Rattle.question_command.specs.Paired.{image_together}
+use Rattle.question_command.specs.Headlines.{Says}
+use Rattle.question_command.specs.RunCommandEnds.{RunEnding, run_status, ending_line, Writing, IsCaused, IsJudged, EndsTold}
+use Rattle.question_command.specs.Loads.{load_written, finished_lines, IsLoadCaused, LoadEnded}
+use Rattle.question_command.specs.Question.{Question}
+use Rattle.question_command.specs.Question.TheVariants as questions
+use Rattle.question_command.specs.Reading.{read_told}
+use Rattle.question_command.specs.Answering.{blank_swap}
+use Rattle.question_command.specs.Asking.{Subject}
+use Rattle.question_command.specs.Ends.{EndsQuestion}
+use Rattle.grade_command.specs.Reading.{trace_told}
+use Rattle.grade_command.specs.Command.{EndsGrade}
 use Rattle.repage_command.specs.Command.{EndsRepage, EndsOwners}
 use Rattle.reference_answers.specs.Command.{EndsPolicies, references_told}
 use Rattle.vm_run.specs.Obeying.{Obeys}

@@ -1,9 +1,9 @@
-pub use Rattle.repage_command.specs.RunCommandAsking
-pub use Rattle.repage_command.specs.Seen
-pub use Rattle.repage_command.specs.Paired
-pub use Rattle.repage_command.specs.RunCommandEnds
-pub use Rattle.repage_command.specs.RunHeadline
-pub use Rattle.repage_command.specs.Headlines
+pub use Rattle.question_command.specs.RunCommandAsking
+pub use Rattle.question_command.specs.Seen
+pub use Rattle.question_command.specs.Paired
+pub use Rattle.question_command.specs.RunCommandEnds
+pub use Rattle.question_command.specs.RunHeadline
+pub use Rattle.question_command.specs.Headlines
 pub mod Obeying
 pub mod Headline
 pub mod Complete

@@ -5,13 +5,13 @@ use Rattle.command_edge.specs.declared.fault.Fault.TheVariants.{BadWords}
 use Rattle.command_edge.specs.Command.{WritesEnding}
 use Rattle.source_commands.specs.Command.{Assembles, Lists}
 use Rattle.replay_command.specs.Command.{Replays}
-use Rattle.repage_command.specs.Outside.{Early}
-use Rattle.repage_command.specs.Seen.{Seen}
-use Rattle.repage_command.specs.RunCommandEnds.{Runs}
-use Rattle.repage_command.specs.Loads.{Loads}
-use Rattle.repage_command.specs.Question.TheVariants as questions
-use Rattle.repage_command.specs.Ends.{Answers}
-use Rattle.repage_command.specs.GradeCommandCommand.{Grades}
+use Rattle.question_command.specs.Outside.{Early}
+use Rattle.question_command.specs.Seen.{Seen}
+use Rattle.question_command.specs.RunCommandEnds.{Runs}
+use Rattle.question_command.specs.Loads.{Loads}
+use Rattle.question_command.specs.Question.TheVariants as questions
+use Rattle.question_command.specs.Ends.{Answers}
+use Rattle.grade_command.specs.Command.{Grades}
 use Rattle.repage_command.specs.Command.{Repages, TellsWhose}
 use Rattle.reference_answers.specs.Command.{Compares}
 

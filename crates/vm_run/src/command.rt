@@ -2,21 +2,19 @@
 //! headline.
 ghost use Rattle.std.specs.Prelude.{◌≡◌, map};
 ghost use Rattle.command_words.specs.Asked.{request_of, asked_of};
-ghost use Rattle.repage_command.specs.Outside.{KeepsOutside};
-ghost use Rattle.repage_command.specs.Sight.{seen_of_all};
+ghost use Rattle.question_command.specs.Outside.{KeepsOutside};
+ghost use Rattle.question_command.specs.Sight.{seen_of_all};
 ghost use Rattle.vm_run.specs.Headline.{CarriesFor};
 ghost use Rattle.vm_run.specs.Failing.{FailsByStatus};
 ghost use Rattle.vm_run.specs.Obeying.{Obeys, LeavesFiles, LeavesDevice};
 
 use command_edge::{Fault, write_ending};
 use command_words::{Command, read_words};
+use grade_command::grade_file;
 use io_edge::{Files, Sink, SwapDev};
+use question_command::reference_commands::run_command::{load_command, run_command};
+use question_command::{Question, ask_command};
 use reference_answers::compare_policies;
-use repage_command::grade_command::grade_file;
-use repage_command::grade_command::question_command::reference_commands::run_command::{
-    load_command, run_command,
-};
-use repage_command::grade_command::question_command::{Question, ask_command};
 use repage_command::{repage_file, repage_owners};
 use replay_command::replay_file;
 use source_commands::{assemble_file, list_file};

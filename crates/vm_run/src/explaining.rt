@@ -13,11 +13,11 @@ ghost use Rattle.vm_run.specs.Explaining.{Explains, LacksFile, LacksReason, Lack
 
 use command_edge::Fault;
 use command_words::{Command, Numbers, explain_words, read_words};
+use grade_command::explain_grade;
 use io_edge::Files;
 use line_reasons::{explain_references, explain_schedule};
+use question_command::explain_limit;
 use repage_command::explain_repage;
-use repage_command::grade_command::explain_grade;
-use repage_command::grade_command::question_command::explain_limit;
 use replay_command::explain_transcript;
 use source_commands::explain_source;
 use std::alloc::Global;

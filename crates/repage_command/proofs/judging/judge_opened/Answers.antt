@@ -3,9 +3,9 @@ use Rattle.io_edge.specs.FileRequests.{no_notes}
 use Rattle.io_edge.specs.WithFiles.{with_files}
 use Rattle.machine_state.specs.Machine.{Standing}
 use Rattle.repage_check.specs.VmCoreStarting.{AreAmong}
-use Rattle.grade_command.specs.Answering.{blank_stores}
-use Rattle.grade_command.proofs.Openings.{are_sound, are_names}
-use Rattle.grade_command.proofs.Runs.{asked, opened_files}
+use Rattle.question_command.specs.Answering.{blank_stores}
+use Rattle.question_command.proofs.Openings.{are_sound, are_names}
+use Rattle.question_command.proofs.Runs.{asked, opened_files}
 use Rattle.repage_command.specs.Reading.{inputs_of}
 use Rattle.repage_command.proofs.Judged.{numbers_among}
 use Rattle.repage_command.proofs.Askings.{told_of}

@@ -3,8 +3,8 @@ use Rattle.machine_state.specs.Applying.{facts_named}
 use Rattle.machine_state.specs.Machine.{Standing, image_shown}
 use Rattle.machine_state.specs.New.{fresh_kernel, AreSound}
 use Rattle.machine_state.specs.Named.{Named}
-use Rattle.grade_command.proofs.Openings.{shown_facts}
-use Rattle.grade_command.proofs.RunCommandRuns.{fresh_machine}
+use Rattle.question_command.proofs.Openings.{shown_facts}
+use Rattle.question_command.proofs.RunCommandRuns.{fresh_machine}
 use Rattle.repage_command.proofs.judging.machine_of.Goals as goal
 
 pub new-requires-clause-sound : goal.new-requires-clause-sound

@@ -10,9 +10,9 @@ use Rattle.command_edge.proofs.Counting.{none_then, counted_then}
 use Rattle.run_opening.proofs.Lists.{few_started}
 use Rattle.replay_command.specs.Reading.{images_told}
 use Rattle.replay_command.proofs.Replays.{images_counted}
-use Rattle.grade_command.specs.InMemory.{AllDiffer}
-use Rattle.grade_command.proofs.Names.{names_differ}
-use Rattle.grade_command.proofs.Words.{short_names}
+use Rattle.question_command.specs.InMemory.{AllDiffer}
+use Rattle.question_command.proofs.Names.{names_differ}
+use Rattle.question_command.proofs.Words.{short_names}
 use Rattle.repage_command.specs.declared.reading.Case.{Case}
 use Rattle.repage_command.proofs.Readings.{Ends, trace_ends, refused, images_end, case_ends}
 use Rattle.repage_command.proofs.reading.read_case.Goals as goal

@@ -4,9 +4,9 @@ use Rattle.io_edge.specs.FileHolding.{NamedFile, named_file}
 use Rattle.io_edge.specs.Octets.{AreOctetFiles}
 use Rattle.io_edge.specs.Zeros.{with_zeros}
 use Rattle.command_words.specs.Asked.{Asked, request_of, asked_of}
-use Rattle.repage_command.specs.Seen.{Seen}
-use Rattle.repage_command.specs.Paired.{image_together}
-use Rattle.repage_command.specs.Answering.{blank_swap}
+use Rattle.question_command.specs.Seen.{Seen}
+use Rattle.question_command.specs.Paired.{image_together}
+use Rattle.question_command.specs.Answering.{blank_swap}
 use Rattle.vm_run.specs.Obeying.{Obeys}
 use Rattle.vm_run.specs.InMemory.{blank_pair, seen_of}
 use Rattle.vm_run.proofs.Telling.{obeys_told, same_seen, together, headline_told}
