@@ -19,8 +19,8 @@ use Rattle.page_laws.proofs.Ownership.Serve.{force_owner}
 use Rattle.page_laws.specs.Spans.{moves, moves_of}
 use Rattle.page_laws.proofs.Spanning.{units_added_false}
 use Rattle.page_laws.proofs.Forcing.{Short, forced_short, forced_moves}
-use Rattle.machine_state.specs.Machine.{Standing}
-use Rattle.machine_state.specs.Done.{KeepsThrough}
+use Rattle.paging_units.specs.Machine.{Standing}
+use Rattle.paging_units.specs.Done.{KeepsThrough}
 use Rattle.paging_units.specs.Made.{ground, MakesUnit}
 use Rattle.paging_units.specs.LastMoves.{last_moves}
 use Rattle.paging_units.specs.Stops.{StopsAt, StopsWhile}

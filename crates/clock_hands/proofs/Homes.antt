@@ -19,8 +19,8 @@ use Rattle.page_laws.proofs.Lists.Pages.{numbered_hit, numbered_miss}
 use Rattle.page_laws.proofs.Moves.Steps.{page_in}
 use Rattle.page_laws.proofs.Ownership.Pages.{seated_alone, seated_frame}
 use Rattle.kluster_io.specs.Views.{ShowsPage}
-use Rattle.machine_state.specs.Showing.{ShowsCore}
-use Rattle.machine_state.specs.Sharing.{IsSharer}
+use Rattle.paging_units.specs.Showing.{ShowsCore}
+use Rattle.paging_units.specs.Sharing.{IsSharer}
 use Rattle.clock_hands.specs.Seen.{IsHome}
 
 absent_none : (n : ℕ) (ss : List SpacePages) → IsAbsent n (map space_number ss) → numbered space_number n ss ≡ None

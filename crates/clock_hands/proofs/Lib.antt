@@ -4,6 +4,12 @@ pub use Rattle.paging_units.proofs.Stopping
 pub use Rattle.paging_units.proofs.Units as PagingUnitsUnits
 pub use Rattle.page_laws.proofs.Serving
 pub use Rattle.page_laws.proofs.Spanning
+pub use Rattle.paging_units.proofs.Entries
+pub use Rattle.paging_units.proofs.UserFrames
+pub use Rattle.paging_units.proofs.Shows
+pub use Rattle.paging_units.proofs.Settling
+pub use Rattle.paging_units.proofs.FlatMemory
+pub use Rattle.paging_units.proofs.Listed
 pub mod Seats
 pub mod Fronts
 pub mod Backs

@@ -19,10 +19,10 @@ use Rattle.page_laws.proofs.Moves.Transfers.{entry_count}
 use Rattle.page_laws.specs.Spans.{moves}
 use Rattle.page_laws.proofs.Serving.{done_less}
 use Rattle.kernel_model.specs.Kernel.{hand_step}
-use Rattle.machine_state.specs.Calls.{IsRunOf}
-use Rattle.machine_state.specs.Machine.{Standing}
+use Rattle.paging_units.specs.Calls.{IsRunOf}
+use Rattle.paging_units.specs.Machine.{Standing}
 use Rattle.run_model.specs.Next.{move_by, move_unit}
-use Rattle.machine_state.specs.Done.{sources, IsDone, KeepsThrough}
+use Rattle.paging_units.specs.Done.{sources, IsDone, KeepsThrough}
 use Rattle.paging_units.specs.Made.{ground, MadeBy, MakesUnit}
 use Rattle.paging_units.specs.LastMoves.{last_moves}
 use Rattle.paging_units.specs.Stops.{StopsAt, StopsWhile}

@@ -19,7 +19,7 @@ use Rattle.page_laws.proofs.Lists.Local.{none_some}
 use Rattle.page_laws.proofs.Moves.Steps.{frame_in, once_at}
 use Rattle.page_laws.proofs.Ownership.Pages.{seated_alone, seated_frame}
 use Rattle.kluster_io.specs.TableViewShown.{is_away}
-use Rattle.machine_state.specs.Showing.{ShowsCore}
+use Rattle.paging_units.specs.Showing.{ShowsCore}
 
 -- the page's token is in its slot
 pub record HasToken (core : Frames) (f : ℕ) (q : Page) : Type 0 where

@@ -4,10 +4,10 @@ use Rattle.vm_facts.specs.SwapImages.{SwapImage}
 use Rattle.vm_facts.specs.declared.page.Page.{Page}
 use Rattle.vm_facts.specs.declared.entry.Entry.{Entry}
 use Rattle.io_edge.specs.FileHolding.{NamedFile}
-use Rattle.machine_state.specs.Machine.{Standing}
+use Rattle.paging_units.specs.Machine.{Standing}
 use Rattle.kernel_model.specs.Kernel.{Kernel}
-use Rattle.machine_state.specs.Done.{KeepsThrough}
-use Rattle.machine_state.specs.Settled.{IsSameBeside}
+use Rattle.paging_units.specs.Done.{KeepsThrough}
+use Rattle.paging_units.specs.Settled.{IsSameBeside}
 use Rattle.paging_units.specs.Made.{Ground, ground, Made, MakesUnit}
 use Rattle.paging_units.proofs.Units.{same_ground}
 use Rattle.paging_units.proofs.Keeping.{unit_shaped, keeps_both}

@@ -8,7 +8,7 @@ use Rattle.page_model.specs.Placement.{Placement}
 use Rattle.page_model.specs.Serve.{Forces, force_entry}
 use Rattle.page_laws.specs.Spans.{moves_of}
 use Rattle.kernel_model.specs.Kernel.{Kernel}
-use Rattle.machine_state.specs.Machine.{Standing}
+use Rattle.paging_units.specs.Machine.{Standing}
 use Rattle.paging_units.specs.Made.{ground, Makes}
 use Rattle.paging_units.specs.Stops.{Work}
 

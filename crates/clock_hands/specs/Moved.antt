@@ -8,7 +8,7 @@ use Rattle.page_model.specs.Placement.{Placement}
 use Rattle.page_model.specs.Hands.{wants_moves}
 use Rattle.page_model.specs.Place.{place_entry}
 use Rattle.kernel_model.specs.Kernel.{Kernel}
-use Rattle.machine_state.specs.Machine.{Standing}
+use Rattle.paging_units.specs.Machine.{Standing}
 use Rattle.page_laws.specs.Spans.{moves, moves_of}
 use Rattle.run_model.specs.Next.{move_unit}
 use Rattle.paging_units.specs.Made.{ground, Makes}

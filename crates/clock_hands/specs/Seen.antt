@@ -9,7 +9,7 @@ use Rattle.page_model.specs.Runs.{run_out}
 use Rattle.page_model.specs.Hands.{expire, hand_run}
 use Rattle.page_model.specs.Conditions.{IsSeated}
 use Rattle.kluster_io.specs.Views.{IsNamedBy, ShowsSpace}
-use Rattle.machine_state.specs.Showing.{ShowsCore}
+use Rattle.paging_units.specs.Showing.{ShowsCore}
 
 -- the page that holds this frame off the free list and isn't locked; none, where no page does
 abbrev pub IsUnlocked : Placement → List Page → ℕ → Option Page → Type 0

@@ -5,8 +5,8 @@ ghost use Rattle.std.specs.Prelude.{◌≡◌, ◌<◌, ◌≤◌, ◌+◌, ◌^
 ghost use Rattle.page_model.specs.Serve.{force_entry};
 ghost use Rattle.page_model.specs.Rank.{HasRoom, far};
 ghost use Rattle.page_model.specs.Conditions.{Spares};
-ghost use Rattle.machine_state.specs.Done.{KeepsThrough};
-ghost use Rattle.machine_state.specs.Outside.{Asks, GoesOn};
+ghost use Rattle.paging_units.specs.Done.{KeepsThrough};
+ghost use Rattle.paging_units.specs.Outside.{Asks, GoesOn};
 ghost use Rattle.paging_units.specs.Made.{ground, MakesUnit};
 ghost use Rattle.paging_units.specs.LastMoves.{last_moves};
 ghost use Rattle.paging_units.specs.Stops.{StopsAt, StopsWhile};
@@ -14,7 +14,7 @@ ghost use Rattle.clock_hands.specs.Forced.{Forced, forcing_frame};
 
 use crate::looking::next_write;
 use io_edge::{Files, SwapDev};
-use machine_state::Machine;
+use paging_units::machine_state::Machine;
 use vm_facts::{Page, Stop};
 
 // One unit of forcing: the oldest transfer completes where one is in flight, and else the hands move, which pass over the

@@ -17,3 +17,4 @@ pub use kluster_io;
 pub use laws::moves_are_asked;
 pub use looking::next_write;
 pub use moving::move_hands;
+pub use paging_units::machine_state;

@@ -5,15 +5,15 @@ ghost use Rattle.page_model.specs.Pages.{is_valid};
 ghost use Rattle.page_model.specs.Placement.{state_of, IsThere};
 ghost use Rattle.page_model.specs.Hands.{hand_run};
 ghost use Rattle.page_model.specs.Conditions.{IsShared};
-ghost use Rattle.machine_state.specs.Going.{IsRunning};
-ghost use Rattle.machine_state.specs.Calls.{IsRunOf};
+ghost use Rattle.paging_units.specs.Going.{IsRunning};
+ghost use Rattle.paging_units.specs.Calls.{IsRunOf};
 ghost use Rattle.kluster_io.specs.Front.{Expires};
 ghost use Rattle.clock_hands.specs.Seen.{IsUnlocked, IsToWrite, IsHome};
 
 use core_map::Whose;
 use flat_state::is_among;
 use kluster_io::pick_out;
-use machine_state::Machine;
+use paging_units::machine_state::Machine;
 use space_map::SpaceMap;
 use vm_facts::{Page, PageState};
 

@@ -3,9 +3,9 @@
 ghost use Rattle.io_edge.specs.WithFiles.{stores};
 ghost use Rattle.std.specs.Prelude.{◌≡◌, ◌<◌, ◌+◌, ◌^◌, true, [], IfOk, OnOk, IfErr};
 ghost use Rattle.page_model.specs.Hands.{wants_moves};
-ghost use Rattle.machine_state.specs.Going.{IsRunning};
-ghost use Rattle.machine_state.specs.Done.{KeepsThrough};
-ghost use Rattle.machine_state.specs.Outside.{Asks, GoesOn};
+ghost use Rattle.paging_units.specs.Going.{IsRunning};
+ghost use Rattle.paging_units.specs.Done.{KeepsThrough};
+ghost use Rattle.paging_units.specs.Outside.{Asks, GoesOn};
 ghost use Rattle.run_model.specs.Next.{move_unit};
 ghost use Rattle.paging_units.specs.Made.{ground, MakesUnit};
 ghost use Rattle.paging_units.specs.LastMoves.{last_moves};
@@ -14,7 +14,7 @@ ghost use Rattle.clock_hands.specs.Moved.{Moved, moving_hands, IsMoveOf};
 
 use crate::looking::next_write;
 use io_edge::{Files, SwapDev};
-use machine_state::Machine;
+use paging_units::machine_state::Machine;
 use vm_facts::{MOST_IN_FLIGHT, Stop};
 
 // Whether fewer than a quarter of the frames are free.

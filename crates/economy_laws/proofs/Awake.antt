@@ -8,7 +8,7 @@ use Rattle.flat_state.specs.Numbers.{IsAbsent, AllDistinct, pids_of}
 use Rattle.flat_state.specs.declared.change.Change.{Change}
 use Rattle.flat_state.specs.declared.change.Change.TheVariants.{Keep, Resize, Fork, Lend, Exec, Reap, Sleep, End}
 use Rattle.flat_state.specs.Change.{replaced_by, replaced, with_process, without_process, resized, child_of, lends_to, returned_by, returned, given_back, entered, is_zombie, is_zombie_child, without_parent, orphaned, awake, left, changed, NamesChild}
-use Rattle.flat_laws.proofs.Runs.{made}
+use Rattle.run_laws.proofs.Runs.{made}
 use Rattle.run_laws.proofs.Lists.{Parts, parts_at, found_is}
 
 -- it isn't asleep, and has not ended

@@ -37,7 +37,7 @@ use Rattle.run_model.specs.Snapshot.{pages_written}
 use Rattle.run_model.specs.Next.{fill_by, begins_write, move_by, owners_entry, next_unit}
 use Rattle.run_model.specs.Kinds.{Kind, Fills, Brings, Copies, ServesWanted, Acts, ProcessComes, Interrupts, HandsMove, ProcessGoes, Notes, Begins}
 use Rattle.run_model.proofs.NextUnits.{kind_of}
-use Rattle.flat_laws.proofs.Runs.{made}
+use Rattle.run_laws.proofs.Runs.{made}
 use Rattle.run_laws.specs.Sized.{PlaceSized}
 use Rattle.run_laws.specs.Standing.{MarkStands}
 use Rattle.run_laws.specs.Running.{IsRun}

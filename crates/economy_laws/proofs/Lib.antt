@@ -5,16 +5,16 @@ pub use Rattle.run_laws.proofs.Plain
 pub use Rattle.run_laws.proofs.SwapImages
 pub use Rattle.run_laws.proofs.Turning
 pub use Rattle.run_laws.proofs.Wholes
-pub use Rattle.flat_laws.proofs.Asking as FlatLawsAsking
-pub use Rattle.flat_laws.proofs.Computations
-pub use Rattle.flat_laws.proofs.Finding
-pub use Rattle.flat_laws.proofs.Others
-pub use Rattle.flat_laws.proofs.Shown
+pub use Rattle.run_laws.proofs.FlatLawsAsking
+pub use Rattle.run_laws.proofs.Computations
+pub use Rattle.run_laws.proofs.Finding
+pub use Rattle.run_laws.proofs.Others
+pub use Rattle.run_laws.proofs.Shown
 pub use Rattle.run_laws.proofs.Borrowed
 pub use Rattle.run_laws.proofs.Shapes
 pub use Rattle.run_laws.proofs.Swaps
-pub use Rattle.flat_laws.proofs.Replying
-pub use Rattle.flat_laws.proofs.Runs
+pub use Rattle.run_laws.proofs.Replying
+pub use Rattle.run_laws.proofs.Runs
 pub use Rattle.run_laws.proofs.Acts
 pub use Rattle.run_laws.proofs.Allowed
 pub use Rattle.run_laws.proofs.Beginning as RunLawsBeginning
@@ -29,7 +29,18 @@ pub use Rattle.run_laws.proofs.Stepping as RunLawsStepping
 pub use Rattle.run_laws.proofs.Touching as RunLawsTouching
 pub use Rattle.run_laws.proofs.Units
 pub use Rattle.run_laws.proofs.Written
-pub use Rattle.flat_laws.proofs.Distinct
+pub use Rattle.run_laws.proofs.Distinct
+pub use Rattle.run_laws.proofs.Sizing
+pub use Rattle.run_laws.proofs.Lists
+pub use Rattle.run_laws.proofs.Sized
+pub use Rattle.run_laws.proofs.Finishing as RunLawsFinishing
+pub use Rattle.run_laws.proofs.Going
+pub use Rattle.run_laws.proofs.Begins
+pub use Rattle.run_laws.proofs.Images
+pub use Rattle.run_laws.proofs.Octets
+pub use Rattle.run_laws.proofs.Filing
+pub use Rattle.run_laws.proofs.Tables
+pub use Rattle.run_laws.proofs.Registers
 pub mod Called
 pub mod SmallReads
 pub mod Lost

@@ -31,11 +31,11 @@ use Rattle.run_laws.proofs.Others.{number_of_found, pids_written}
 use Rattle.economy_laws.proofs.Idle.{stepped_by}
 use Rattle.run_laws.proofs.Finding.{found_after}
 use Rattle.economy_laws.proofs.Sleeping.{Does, does}
-use Rattle.flat_laws.specs.Visible.{is_fork}
-use Rattle.flat_laws.proofs.Sole.{BringsNone}
-use Rattle.flat_laws.proofs.Children.{Spares, reply_spares}
-use Rattle.flat_laws.proofs.Runs.{made, made_one}
-use Rattle.flat_laws.proofs.Steps.{ends_in_fork, last_due}
+use Rattle.run_laws.specs.Visible.{is_fork}
+use Rattle.run_laws.proofs.Sole.{BringsNone}
+use Rattle.run_laws.proofs.Children.{Spares, reply_spares}
+use Rattle.run_laws.proofs.Runs.{made, made_one}
+use Rattle.run_laws.proofs.FlatLawsSteps.{ends_in_fork, last_due}
 use Rattle.economy_laws.specs.Few.{is_sleep}
 use Rattle.economy_laws.proofs.Awake.{awake_one, awake_count, count_replaced, slept, changed_count}
 

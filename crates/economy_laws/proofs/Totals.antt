@@ -36,7 +36,7 @@ use Rattle.economy_laws.specs.Stretch.{begins_stretch, copies, copies_of, turns,
 use Rattle.economy_laws.proofs.Finishing.Stages.{is_boundary}
 use Rattle.economy_laws.proofs.Opening.{opens}
 use Rattle.economy_laws.proofs.Sleeping.{Does, does}
-use Rattle.flat_laws.specs.Visible.{is_fork}
+use Rattle.run_laws.specs.Visible.{is_fork}
 use Rattle.economy_laws.specs.Few.{is_sleep, is_turn, is_copy, SleepsAreFew, TurnsAreFew, CopiesAreFew, moves_asked, JournalsAreShort}
 use Rattle.economy_laws.proofs.Counting.{counted_in, appended_counts, appended_instructions, sums}
 use Rattle.economy_laws.proofs.Resting.{Rest, rest_running, hands_of, rest_clear}

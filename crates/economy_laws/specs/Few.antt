@@ -12,7 +12,7 @@ use Rattle.run_model.specs.State.{State}
 use Rattle.run_model.specs.Lawful.{Reaches}
 use Rattle.run_laws.specs.Sized.{InputsSized}
 use Rattle.run_laws.specs.Running.{CanRun}
-use Rattle.flat_laws.specs.Visible.{is_fork}
+use Rattle.run_laws.specs.Visible.{is_fork}
 
 -- a process falls asleep
 abbrev pub is_sleep : Entry → Bool

@@ -11,9 +11,9 @@ use Rattle.flat_state.specs.declared.spot.Spot.{Spot}
 use Rattle.flat_state.specs.declared.spot.Spot.TheVariants as spots
 use Rattle.flat_state.proofs.Spots.{text_spot, data_spot, OfStack, stack_spot, stack_index_within}
 use Rattle.page_model.specs.Placement.{Placement, IsThere}
-use Rattle.machine_state.specs.Views.{IsNamedBy, ShowsPage, ShowsSpace}
-use Rattle.machine_state.proofs.Entries.{data_hit, stack_hit, text_hit}
-use Rattle.machine_state.proofs.UserFrames.{get_within}
+use Rattle.clock_hands.specs.Views.{IsNamedBy, ShowsPage, ShowsSpace}
+use Rattle.clock_hands.proofs.Entries.{data_hit, stack_hit, text_hit}
+use Rattle.clock_hands.proofs.UserFrames.{get_within}
 use Rattle.fault_fill.specs.declared.access.Access.TheVariants as accesses
 use Rattle.fault_fill.specs.Access.{access_at, access_of}
 

@@ -28,7 +28,7 @@ use Rattle.clock_hands.specs.Spans.{takings}
 use Rattle.clock_hands.proofs.Spanning.{units_added_false}
 use Rattle.clock_hands.proofs.Serving.{served_short}
 use Rattle.clock_hands.proofs.Serving as short
-use Rattle.machine_state.specs.Machine.{Standing}
+use Rattle.clock_hands.specs.Machine.{Standing}
 use Rattle.clock_hands.specs.LastMoves.{last_moves}
 use Rattle.clock_hands.specs.Made.{ground}
 use Rattle.clock_hands.proofs.LastMoves.{last_of}

@@ -11,8 +11,8 @@ use Rattle.page_model.specs.Serve.{force, Forces}
 use Rattle.page_model.specs.Ownership.{OwnsFrames}
 use Rattle.page_laws.proofs.Moves.Stays.{Stays, force_stays}
 use Rattle.page_laws.proofs.Ownership.Serve.{force_owner}
-use Rattle.machine_state.specs.Machine.{Standing}
-use Rattle.machine_state.specs.Done.{KeepsThrough}
+use Rattle.clock_hands.specs.Machine.{Standing}
+use Rattle.clock_hands.specs.Done.{KeepsThrough}
 use Rattle.clock_hands.specs.Stops.{StopsWhile}
 use Rattle.clock_hands.specs.Forced.{Forced, forcing_frame}
 use Rattle.fault_fill.specs.Serving.{serving_page}

@@ -23,13 +23,13 @@ use Rattle.kernel_model.specs.Unit.{proc_of}
 use Rattle.page_laws.proofs.Ownership.Changes.{cut}
 use Rattle.clock_hands.specs.LastMoves.{last_moves}
 use Rattle.clock_hands.proofs.LastMoves.{last_of}
-use Rattle.machine_state.specs.Going.{CanGoOn}
-use Rattle.machine_state.specs.Want.{Want}
-use Rattle.machine_state.specs.Machine.{Standing}
-use Rattle.machine_state.specs.Wants.{wanted_of, found_for, fits_for}
-use Rattle.machine_state.specs.Conditions.{KeepsFlat, SameEverywhere}
-use Rattle.machine_state.specs.Applying.{CanApply, MayAct, facts_named}
-use Rattle.machine_state.specs.UserMemory.{CanLend}
+use Rattle.clock_hands.specs.Going.{CanGoOn}
+use Rattle.clock_hands.specs.Want.{Want}
+use Rattle.clock_hands.specs.Machine.{Standing}
+use Rattle.clock_hands.specs.Wants.{wanted_of, found_for, fits_for}
+use Rattle.clock_hands.specs.Conditions.{KeepsFlat, SameEverywhere}
+use Rattle.clock_hands.specs.Applying.{CanApply, MayAct, facts_named}
+use Rattle.clock_hands.specs.UserMemory.{CanLend}
 use Rattle.fault_fill.specs.Growth.{space_of_pid, IsGrowth, growth, growth_found, with_pieces, Grown, GrowthRefused}
 use Rattle.fault_fill.specs.Serving.{CanServe}
 use Rattle.fault_fill.specs.Touches.{MayServePage}

@@ -1,6 +1,6 @@
 -- The pieces that growth of a stack asks for are those beyond the ones that are held.
 use Rattle.std.proofs.Common.{◌≡◌, ℕ, ◌*◌, List, [], ◌∷◌, ◌++◌, length, drop, refl, sym, ap, ◌∙◌}
-use Rattle.machine_state.proofs.Shows.{length_map}
+use Rattle.clock_hands.proofs.Shows.{length_map}
 use Rattle.aout_image.specs.declared.Image.{Image}
 use Rattle.swap_dmap.specs.Chunks.{pieces}
 use Rattle.swap_book.specs.declared.Owner.TheVariants as owners
@@ -11,8 +11,8 @@ use Rattle.flat_state.specs.declared.change.Change.TheVariants.{Resize}
 use Rattle.page_model.specs.Placement.{Placement}
 use Rattle.page_model.specs.Place.{data_count, stack_count}
 use Rattle.kernel_model.specs.Asks.{further, change_asks}
-use Rattle.machine_state.specs.Wants.{wanted_of}
-use Rattle.machine_state.specs.Want.{Want}
+use Rattle.clock_hands.specs.Wants.{wanted_of}
+use Rattle.clock_hands.specs.Want.{Want}
 
 drop_all_of : (xs : List ℕ) → drop (length xs) xs ≡ []
 drop_all_of [] = refl

@@ -11,8 +11,8 @@ use Rattle.page_model.specs.Pages.{SpacePages, numbered}
 use Rattle.page_model.specs.Placement.{Placement, space_number, IsThere, sharers_in}
 use Rattle.page_model.specs.Conditions.{IsShared}
 use Rattle.page_laws.proofs.Lists.Pages.{numbered_hit, numbered_miss}
-use Rattle.machine_state.specs.Views.{IsNamedBy, ShowsPage, ShowsSpace}
-use Rattle.machine_state.specs.Sharing.{IsSharer}
+use Rattle.clock_hands.specs.Views.{IsNamedBy, ShowsPage, ShowsSpace}
+use Rattle.clock_hands.specs.Sharing.{IsSharer}
 use Rattle.clock_hands.proofs.Homes.{skips}
 
 absent_there : (n : ℕ) (ss : List SpacePages) (m : ℕ) (x : SpacePages) → IsAbsent n (map space_number ss) → numbered space_number m ss ≡ Some x → n ≢ m

@@ -18,11 +18,11 @@ use Rattle.page_model.specs.Serve.{serve_unit, Serves}
 use Rattle.page_model.specs.Ownership.{OwnsFrames}
 use Rattle.kernel_model.specs.Kernel.{Kernel}
 use Rattle.kernel_model.specs.Requests.{ImageFile}
-use Rattle.machine_state.specs.Machine.{Standing}
-use Rattle.machine_state.specs.Sourced.{files_named}
-use Rattle.machine_state.specs.Conditions.{HasStopped, KeepsFlat}
-use Rattle.machine_state.specs.Performing.{IsAtBound, Performs, StopsForRoom}
-use Rattle.machine_state.proofs.Settling.{beside_done}
+use Rattle.clock_hands.specs.Machine.{Standing}
+use Rattle.clock_hands.specs.Sourced.{files_named}
+use Rattle.clock_hands.specs.Conditions.{HasStopped, KeepsFlat}
+use Rattle.clock_hands.specs.Performing.{IsAtBound, Performs, StopsForRoom}
+use Rattle.clock_hands.proofs.Settling.{beside_done}
 use Rattle.clock_hands.specs.Made.{Ground, ground, MadeBy, ImageBy}
 use Rattle.clock_hands.specs.Stops.{CauseBy, SpoilsBy, StopsWhile, StopsAt}
 use Rattle.clock_hands.proofs.Stopping.{held_here, next_later, stops_at_first}

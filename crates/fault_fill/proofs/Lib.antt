@@ -3,6 +3,7 @@ pub use Rattle.clock_hands.proofs.Keeping
 pub use Rattle.clock_hands.proofs.LastMoves
 pub use Rattle.clock_hands.proofs.Stopping
 pub use Rattle.clock_hands.proofs.PagingUnitsUnits
+pub use Rattle.clock_hands.proofs.FlatMemory
 pub mod Grows
 pub mod GrownStacks
 pub mod Homes

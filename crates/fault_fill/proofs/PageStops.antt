@@ -5,7 +5,7 @@ use Rattle.vm_facts.specs.declared.page.Page.{Page}
 use Rattle.vm_facts.specs.declared.page.Page.TheVariants as page_names
 use Rattle.vm_facts.specs.declared.stop.Stop.{Stop}
 use Rattle.io_edge.specs.FileHolding.{NamedFile}
-use Rattle.machine_state.specs.Machine.{Standing}
+use Rattle.clock_hands.specs.Machine.{Standing}
 use Rattle.clock_hands.specs.Stops.{StopsWhile}
 use Rattle.fault_fill.specs.Serving.{serving_page}
 use Rattle.clock_hands.specs.LastMoves.{last_moves}

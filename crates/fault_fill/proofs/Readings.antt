@@ -17,7 +17,7 @@ use Rattle.page_laws.proofs.Lists.Runs.{run_both_in, run_up_in, run_alone_in, ru
 use Rattle.page_laws.proofs.Runs.Widest.{above_le, below_room}
 use Rattle.page_laws.proofs.Ownership.Serve.{on_swap_is, unfilled_is, run_in_enters}
 use Rattle.page_laws.proofs.Moves.Parts.{run_some}
-use Rattle.machine_state.specs.Conditions.{CanBringIn}
+use Rattle.clock_hands.specs.Conditions.{CanBringIn}
 
 -- text is never due
 text_not_due : (p : Placement) (image v : ℕ) → DueStand p → due_of_page p.due (Text image v) ≡ None

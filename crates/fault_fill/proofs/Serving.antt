@@ -34,7 +34,7 @@ use Rattle.page_laws.proofs.Moves.Cases.{serving_cases, read_frameless, serving_
 use Rattle.page_laws.proofs.Due.Entries.{serve_dues}
 use Rattle.page_laws.proofs.Serving.{done_lands}
 use Rattle.clock_hands.proofs.Serving.{done_less}
-use Rattle.machine_state.specs.PlaceOf.{is_blank}
+use Rattle.clock_hands.specs.PlaceOf.{is_blank}
 use Rattle.fault_fill.specs.Serving.{CanServe}
 use Rattle.fault_fill.specs.Units.{is_flying}
 

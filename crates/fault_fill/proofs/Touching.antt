@@ -20,13 +20,13 @@ use Rattle.kernel_model.specs.Kernel.{Life, HoldsSpace, Kernel, Proc}
 use Rattle.kernel_model.specs.Asks.{HasSpace}
 use Rattle.kernel_model.specs.ChangeStep.{space_of_life, life_of_proc}
 use Rattle.kernel_model.specs.Unit.{proc_of}
-use Rattle.machine_state.specs.Views.{IsNamedBy, ShowsSpace}
-use Rattle.machine_state.specs.Alike.{AreRecords}
-use Rattle.machine_state.specs.Machine.{proc_of_record, processes_of}
-use Rattle.machine_state.specs.UserMemory.{CanLend}
-use Rattle.machine_state.proofs.Listed.{process_is}
-use Rattle.machine_state.proofs.Entries.{data_hit, stack_hit, text_hit}
-use Rattle.machine_state.proofs.UserFrames.{get_within, get_below}
+use Rattle.clock_hands.specs.Views.{IsNamedBy, ShowsSpace}
+use Rattle.clock_hands.specs.Alike.{AreRecords}
+use Rattle.clock_hands.specs.Machine.{proc_of_record, processes_of}
+use Rattle.clock_hands.specs.UserMemory.{CanLend}
+use Rattle.clock_hands.proofs.Listed.{process_is}
+use Rattle.clock_hands.proofs.Entries.{data_hit, stack_hit, text_hit}
+use Rattle.clock_hands.proofs.UserFrames.{get_within, get_below}
 use Rattle.fault_fill.specs.declared.access.Access.{Access}
 use Rattle.fault_fill.specs.declared.access.Access.TheVariants as accesses
 use Rattle.fault_fill.specs.Access.{access_at, access_of}

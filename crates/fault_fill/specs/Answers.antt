@@ -6,7 +6,7 @@ use Rattle.io_edge.specs.FileHolding.{NamedFile}
 use Rattle.page_model.specs.Pages.{is_valid}
 use Rattle.page_model.specs.Placement.{Placement, state_of}
 use Rattle.clock_hands.specs.Spans.{takings}
-use Rattle.machine_state.specs.Machine.{Standing}
+use Rattle.clock_hands.specs.Machine.{Standing}
 use Rattle.fault_fill.specs.Serving.{ServesTo}
 use Rattle.fault_fill.specs.Units.{IsAnswer}
 use Rattle.fault_fill.specs.declared.served.Served.{Served}

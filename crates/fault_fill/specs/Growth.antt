@@ -12,11 +12,11 @@ use Rattle.kernel_model.specs.Kernel.{Kernel, Proc, note_step}
 use Rattle.kernel_model.specs.Asks.{asked}
 use Rattle.kernel_model.specs.ChangeStep.{space_of_life, change_step}
 use Rattle.kernel_model.specs.Unit.{proc_of}
-use Rattle.machine_state.specs.Machine.{Standing}
-use Rattle.machine_state.specs.Calls.{life_in}
-use Rattle.machine_state.specs.Conditions.{KeepsFlat, SameEverywhere}
-use Rattle.machine_state.specs.Applying.{ChangesWhole, facts_named}
-use Rattle.machine_state.specs.UserMemory.{spot_in}
+use Rattle.clock_hands.specs.Machine.{Standing}
+use Rattle.clock_hands.specs.Calls.{life_in}
+use Rattle.clock_hands.specs.Conditions.{KeepsFlat, SameEverywhere}
+use Rattle.clock_hands.specs.Applying.{ChangesWhole, facts_named}
+use Rattle.clock_hands.specs.UserMemory.{spot_in}
 use Rattle.fault_fill.specs.declared.access.Access.{Access}
 use Rattle.fault_fill.specs.declared.access.Access.TheVariants as accesses
 use Rattle.fault_fill.specs.Access.{access_at}

@@ -4,6 +4,12 @@ pub use Rattle.clock_hands.specs.LastMoves
 pub use Rattle.clock_hands.specs.Made
 pub use Rattle.clock_hands.specs.Stops
 pub use Rattle.page_laws.specs.Spans
+pub use Rattle.clock_hands.specs.Sourced
+pub use Rattle.clock_hands.specs.Files
+pub use Rattle.clock_hands.specs.Settled
+pub use Rattle.clock_hands.specs.Applying
+pub use Rattle.clock_hands.specs.UserMemory
+pub use Rattle.clock_hands.specs.Swapping
 pub mod Homes
 pub mod Serving
 pub mod Units

@@ -9,11 +9,11 @@ use Rattle.page_model.specs.Placement.{Placement, IsThere, state_of, filling_of}
 use Rattle.page_model.specs.Conditions.{IsShared}
 use Rattle.page_model.specs.Dues.{NotDue}
 use Rattle.page_model.specs.Serve.{serve_unit, Serves}
-use Rattle.machine_state.specs.Machine.{Standing}
-use Rattle.machine_state.specs.Sourced.{files_named}
-use Rattle.machine_state.specs.PlaceOf.{is_blank}
-use Rattle.machine_state.specs.Done.{KeepsThrough}
-use Rattle.machine_state.specs.Settled.{IsSameBeside}
+use Rattle.clock_hands.specs.Machine.{Standing}
+use Rattle.clock_hands.specs.Sourced.{files_named}
+use Rattle.clock_hands.specs.PlaceOf.{is_blank}
+use Rattle.clock_hands.specs.Done.{KeepsThrough}
+use Rattle.clock_hands.specs.Settled.{IsSameBeside}
 use Rattle.clock_hands.specs.Made.{ground, MadeBy, ImageBy, Makes}
 use Rattle.clock_hands.specs.Stops.{StopsAt, Work}
 

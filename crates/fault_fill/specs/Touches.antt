@@ -8,8 +8,8 @@ use Rattle.io_edge.specs.FileHolding.{NamedFile}
 use Rattle.page_model.specs.Conditions.{Spares}
 use Rattle.clock_hands.specs.LastMoves.{last_moves}
 use Rattle.clock_hands.specs.Stops.{StopsBefore, StopsWhile}
-use Rattle.machine_state.specs.Going.{CanGoOn}
-use Rattle.machine_state.specs.Machine.{Standing}
+use Rattle.clock_hands.specs.Going.{CanGoOn}
+use Rattle.clock_hands.specs.Machine.{Standing}
 use Rattle.fault_fill.specs.Serving.{CanServe, serving_page}
 use Rattle.fault_fill.specs.Answers.{ServedAs, ServedNow, IsShort, AllStayValid}
 use Rattle.fault_fill.specs.Units.{NoneMade}

@@ -9,10 +9,10 @@ use Rattle.vm_facts.specs.declared.entry.Entry.TheVariants as entries
 use Rattle.io_edge.specs.FileHolding.{NamedFile}
 use Rattle.page_model.specs.Pages.{frame_of, is_valid}
 use Rattle.page_model.specs.Placement.{Placement, state_of}
-use Rattle.machine_state.specs.Machine.{Standing}
-use Rattle.machine_state.specs.Sourced.{files_named}
-use Rattle.machine_state.specs.Done.{sources, IsDone, ImageAfter, KeepsThrough}
-use Rattle.machine_state.specs.Settled.{IsSameBeside}
+use Rattle.clock_hands.specs.Machine.{Standing}
+use Rattle.clock_hands.specs.Sourced.{files_named}
+use Rattle.clock_hands.specs.Done.{sources, IsDone, ImageAfter, KeepsThrough}
+use Rattle.clock_hands.specs.Settled.{IsSameBeside}
 use Rattle.clock_hands.specs.LastMoves.{last_moves}
 use Rattle.fault_fill.specs.Serving.{UnitMade, UnitStops, ServesTo}
 use Rattle.fault_fill.specs.declared.served.Served.{Served}

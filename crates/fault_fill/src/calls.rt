@@ -4,7 +4,7 @@ ghost use Rattle.io_edge.specs.WithFiles.{stores};
 ghost use Rattle.std.specs.Prelude.{◌+◌, ◌≤◌, true, false, [], length, OnOk, OnErr, MatchResult};
 ghost use Rattle.page_model.specs.Conditions.{Spares};
 ghost use Rattle.page_model.specs.Rank.{HasRoom};
-ghost use Rattle.machine_state.specs.Outside.{Asks, GoesOn};
+ghost use Rattle.clock_hands.specs.Outside.{Asks, GoesOn};
 ghost use Rattle.clock_hands.specs.LastMoves.{last_moves};
 ghost use Rattle.clock_hands.specs.Stops.{StopsWhile};
 ghost use Rattle.fault_fill.specs.Serving.{CanServe, serving_page};
@@ -12,8 +12,8 @@ ghost use Rattle.fault_fill.specs.Answers.{ServedAs, ServedNow, IsShort, AllStay
 
 use crate::pages::{serve_now_on, serve_on};
 use crate::served::Served;
+use clock_hands::machine_state::Machine;
 use io_edge::{Files, SwapDev};
-use machine_state::Machine;
 use vm_facts::{Page, Stop};
 
 /// Serves a page as far as that needs no waiting: it is valid then, or a read or a write of it is in flight, or it has no

@@ -2,7 +2,7 @@
 //! or left out.
 ghost use Rattle.io_edge.specs.WithFiles.{stores};
 ghost use Rattle.std.specs.Prelude.{◌≡◌, ◌≤◌, true, false, [], MatchResult};
-ghost use Rattle.machine_state.specs.Outside.{Asks, GoesOn};
+ghost use Rattle.clock_hands.specs.Outside.{Asks, GoesOn};
 ghost use Rattle.page_model.specs.Rank.{HasRoom};
 ghost use Rattle.clock_hands.specs.LastMoves.{last_moves};
 ghost use Rattle.clock_hands.specs.Stops.{StopsWhile};
@@ -12,9 +12,9 @@ ghost use Rattle.fault_fill.specs.Answers.{ServesAs, ServesNow};
 
 use crate::served::Served;
 use crate::unit::{finish, serve_unit};
+use clock_hands::machine_state::Machine;
 use clock_hands::make_room;
 use io_edge::{Files, SwapDev};
-use machine_state::Machine;
 use vm_facts::{Page, Stop};
 
 // Serves a page as far as that needs no waiting.

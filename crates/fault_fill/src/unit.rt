@@ -11,11 +11,11 @@ ghost use Rattle.vm_facts.specs.declared.entry.Entry.TheVariants as entries;
 ghost use Rattle.vm_facts.specs.declared.page.PageState.TheVariants.{Invalid};
 ghost use Rattle.page_model.specs.Runs.{run_in, spare_frames};
 ghost use Rattle.kernel_model.specs.Asks.{HasSpace};
-ghost use Rattle.machine_state.specs.Going.{CanGoOn, IsRunning};
-ghost use Rattle.machine_state.specs.Views.{IsNamedBy, ShowsSpace};
-ghost use Rattle.machine_state.specs.Showing.{ShowsCore};
-ghost use Rattle.machine_state.specs.PlaceOf.{is_blank};
-ghost use Rattle.machine_state.specs.Outside.{Asks, GoesOn};
+ghost use Rattle.clock_hands.specs.Going.{CanGoOn, IsRunning};
+ghost use Rattle.clock_hands.specs.Views.{IsNamedBy, ShowsSpace};
+ghost use Rattle.clock_hands.specs.Showing.{ShowsCore};
+ghost use Rattle.clock_hands.specs.PlaceOf.{is_blank};
+ghost use Rattle.clock_hands.specs.Outside.{Asks, GoesOn};
 ghost use Rattle.clock_hands.specs.Stops.{StopsAt};
 ghost use Rattle.fault_fill.specs.Homes.{IsHome};
 ghost use Rattle.fault_fill.specs.Serving.{CanServe};
@@ -23,8 +23,8 @@ ghost use Rattle.fault_fill.specs.Units.{PlainMade, PlainStop, AnyUnit, AnyStop,
 
 use crate::served::Served;
 use clock_hands::kluster_io::pick_in;
+use clock_hands::machine_state::Machine;
 use io_edge::{Files, SwapDev};
-use machine_state::Machine;
 use space_map::SpaceMap;
 use vm_facts::{MOST_IN_FLIGHT, Page, PageState, Stop};
 

@@ -24,16 +24,16 @@ use Rattle.run_laws.specs.Machine.{MakesSwap}
 use Rattle.run_laws.specs.Running.{CanRun}
 use Rattle.run_laws.proofs.Lawful.{follows_state}
 use Rattle.run_laws.proofs.Registers.{start_regs_are}
-use Rattle.run_units.proofs.Swapping.{line_comes, turn_comes}
+use Rattle.vm_core.proofs.Swapping.{line_comes, turn_comes}
 use Rattle.flat_model.specs.Run.{IsBetween}
-use Rattle.run_units.specs.Leads.{Leads}
-use Rattle.run_units.specs.Serving.{At}
-use Rattle.run_units.proofs.Journals.{leads_follow}
-use Rattle.run_units.proofs.Units.{leads_at}
+use Rattle.vm_core.specs.Leads.{Leads}
+use Rattle.vm_core.specs.Serving.{At}
+use Rattle.vm_core.proofs.RunUnitsJournals.{leads_follow}
+use Rattle.vm_core.proofs.Units.{leads_at}
 use Rattle.vm_core.specs.Leading.{IsTold, machine_at_start, StartLeads, StartStops}
-use Rattle.step_units.specs.Lines.{IsOver}
-use Rattle.step_units.specs.Stepped.{StopsNext}
-use Rattle.run_units.specs.Stops.{StaysPut}
+use Rattle.vm_core.specs.StepUnitsLines.{IsOver}
+use Rattle.vm_core.specs.Stepped.{StopsNext}
+use Rattle.vm_core.specs.Stops.{StaysPut}
 use Rattle.vm_core.proofs.Led.{stands_at_start}
 use Rattle.vm_core.specs.Choosing.{turn_after as chosen_next}
 use Rattle.vm_core.proofs.Ready.{turned_same}

@@ -16,10 +16,10 @@ use Rattle.run_model.proofs.Followed.{followed_on}
 use Rattle.run_laws.specs.Machine.{StandsAt}
 use Rattle.run_laws.proofs.Finishing.{units_below}
 use Rattle.run_laws.proofs.Lawful.{follows_state}
-use Rattle.run_units.specs.Leads.{Leads}
-use Rattle.run_units.proofs.Journals.{leads_follow, journal_lawful, journal_accounted, journal_economical}
-use Rattle.run_units.proofs.Units.{none_leads, both_lead}
-use Rattle.step_units.specs.Stepped.{StopLeads}
+use Rattle.vm_core.specs.Leads.{Leads}
+use Rattle.vm_core.proofs.RunUnitsJournals.{leads_follow, journal_lawful, journal_accounted, journal_economical}
+use Rattle.vm_core.proofs.Units.{none_leads, both_lead}
+use Rattle.vm_core.specs.Stepped.{StopLeads}
 use Rattle.vm_core.specs.Cores.{StandsIn}
 use Rattle.vm_core.specs.Lawful.{IsJournalOf}
 use Rattle.vm_core.proofs.Standing.{stands_on, leads_to_stop}

@@ -18,9 +18,9 @@ use Rattle.run_model.specs.After.{after}
 use Rattle.run_model.specs.Lawful.{Follows}
 use Rattle.run_model.proofs.After.{after_journal, units_journal}
 use Rattle.run_laws.proofs.Lawful.{follows_state}
-use Rattle.run_units.proofs.Journals.{leads_follow}
-use Rattle.run_units.proofs.Units.{none_leads}
-use Rattle.step_units.specs.Stepped.{LeadsFrom, StopsFrom}
+use Rattle.vm_core.proofs.RunUnitsJournals.{leads_follow}
+use Rattle.vm_core.proofs.Units.{none_leads}
+use Rattle.vm_core.specs.Stepped.{LeadsFrom, StopsFrom}
 use Rattle.vm_core.specs.Cores.{StandsIn}
 use Rattle.vm_core.specs.Schedules.{HaveFewMoves}
 use Rattle.film_core.specs.Films.{Filming, FilmAt, IsFilming, OneMore, FilmGoes, IsInOrder, FilmsAt}

@@ -10,7 +10,7 @@ use Rattle.machine_state.specs.Machine.{Standing}
 use Rattle.run_model.specs.declared.mark.Mark.{Mark}
 use Rattle.run_model.specs.State.{State}
 use Rattle.run_model.specs.Next.{last_turned}
-use Rattle.step_units.specs.Stepped.{StepLeads, AtSome, LeadsFrom, StopsFrom}
+use Rattle.vm_core.specs.Stepped.{StepLeads, AtSome, LeadsFrom, StopsFrom}
 use Rattle.vm_core.specs.Running.{CountsTo}
 use Rattle.film_core.specs.Films.{IsInOrder}
 use Rattle.film_core.specs.Ways.{WayAt, RestAt, UnderAt, StaysOn, OverAt, GoesAt, StepSettled, RestDone, RunsOut}

@@ -4,8 +4,8 @@ use Rattle.std.proofs.lemmas.List.{length-append}
 use Rattle.std.proofs.Math.Seq.{drop-append_seam}
 use Rattle.std.specs.Prelude.{drop, slice_get, ◌-◌, Some, None}
 use Rattle.vm_facts.specs.declared.entry.Entry.{Entry}
-use Rattle.swapper.specs.Spans.{moves}
-use Rattle.run_units.specs.LastMoves.{last_moves}
+use Rattle.page_laws.specs.Spans.{moves}
+use Rattle.vm_core.specs.LastMoves.{last_moves}
 use Rattle.film_core.specs.Marks.{last_entry}
 use Rattle.run_laws.proofs.LongerJournals.{Behind}
 

@@ -23,11 +23,11 @@ use Rattle.run_model.specs.Lawful.{Follows}
 use Rattle.run_model.proofs.After.{units_journal}
 use Rattle.run_laws.specs.Machine.{StandsAt}
 use Rattle.run_laws.proofs.Lawful.{follows_state}
-use Rattle.run_units.specs.Leads.{Leads}
-use Rattle.run_units.specs.Stops.{SpoilsBy}
-use Rattle.run_units.proofs.Journals.{leads_follow}
-use Rattle.step_units.specs.Sizes.{KeptAtStop}
-use Rattle.step_units.specs.Stepped.{StopsNext, StopLeads, AtSome, LeadsFrom, StopsFrom}
+use Rattle.vm_core.specs.Leads.{Leads}
+use Rattle.vm_core.specs.Stops.{SpoilsBy}
+use Rattle.vm_core.proofs.RunUnitsJournals.{leads_follow}
+use Rattle.vm_core.specs.Sizes.{KeptAtStop}
+use Rattle.vm_core.specs.Stepped.{StopsNext, StopLeads, AtSome, LeadsFrom, StopsFrom}
 use Rattle.vm_core.specs.Cores.{StandsIn}
 use Rattle.film_core.specs.Ways.{GoesAt, RunsOut, EndsRunning}
 use Rattle.film_core.proofs.Composing.{stands_then, leads_run}

@@ -30,9 +30,9 @@ use Rattle.run_laws.proofs.Lawful.{all_units, follows_state}
 use Rattle.run_laws.proofs.Flows.{Acted, Settles, Refuses, Steps, acted, steps_own}
 use Rattle.run_laws.proofs.Plain.{IsPaging, serve_paging, zero_paging, copy_paging, move_paging}
 use Rattle.run_laws.proofs.Settling.{IsMark}
-use Rattle.run_units.specs.Serving.{At}
-use Rattle.swapper.specs.Runners.{runners_of}
-use Rattle.step_units.proofs.Choosing.{runners_same}
+use Rattle.vm_core.specs.Serving.{At}
+use Rattle.vm_core.specs.Runners.{runners_of}
+use Rattle.vm_core.proofs.Choosing.{runners_same}
 use Rattle.vm_core.specs.Schedules.{HaveFewMoves}
 use Rattle.vm_core.specs.Steady.{HasFewMoves}
 use Rattle.vm_core.proofs.Going.{few_at}

@@ -13,18 +13,18 @@ use Rattle.flat_state.specs.Flat.{Inputs}
 use Rattle.page_model.specs.Placement.{Due}
 use Rattle.kernel_model.specs.Kernel.{note_step}
 use Rattle.machine_state.specs.Machine.{Standing}
-use Rattle.run_units.specs.Stops.{StopsBefore}
+use Rattle.vm_core.specs.Stops.{StopsBefore}
 use Rattle.run_model.specs.declared.mark.Mark.{Mark}
 use Rattle.run_model.specs.declared.mark.Mark.TheVariants as marks
 use Rattle.run_model.specs.State.{State, start}
 use Rattle.run_model.specs.Next.{or_else, when, due_unit, under, turn_of, line_or_turn, next_mark, next_unit, next_turned, last_turned}
-use Rattle.run_units.specs.Leads.{Leads}
-use Rattle.run_units.proofs.Journals.{leads_follow}
-use Rattle.step_units.specs.Sizes.{KeptAtStop}
-use Rattle.step_units.specs.Stepped.{StopLeads, AtSome, LeadsFrom, StopsFrom}
-use Rattle.step_units.specs.Lines.{IsOver, LineBegun, TurnBegun, TurnDue}
-use Rattle.step_units.proofs.Beginning.{line_begins, line_stops, turn_stops}
-use Rattle.step_units.proofs.Turning.{turn_begins}
+use Rattle.vm_core.specs.Leads.{Leads}
+use Rattle.vm_core.proofs.RunUnitsJournals.{leads_follow}
+use Rattle.vm_core.specs.Sizes.{KeptAtStop}
+use Rattle.vm_core.specs.Stepped.{StopLeads, AtSome, LeadsFrom, StopsFrom}
+use Rattle.vm_core.specs.StepUnitsLines.{IsOver, LineBegun, TurnBegun, TurnDue}
+use Rattle.vm_core.proofs.Beginning.{line_begins, line_stops, turn_stops}
+use Rattle.vm_core.proofs.Turning.{turn_begins}
 use Rattle.vm_core.specs.Choosing.{turn_after as chosen_next}
 use Rattle.vm_core.proofs.Ready.{turned_same}
 use Rattle.vm_core.specs.Cores.{StandsIn}

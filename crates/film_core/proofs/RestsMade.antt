@@ -17,18 +17,18 @@ use Rattle.run_model.specs.declared.mark.Mark.{Mark}
 use Rattle.run_model.specs.declared.mark.Mark.TheVariants as marks
 use Rattle.run_model.specs.State.{State}
 use Rattle.run_model.specs.Next.{under, goes_on, turn_instructions, turn_unit, when, last_turned}
-use Rattle.run_units.specs.Leads.{Leads}
-use Rattle.run_units.specs.Moved.{Moved, moving_hands}
-use Rattle.run_units.specs.Stops.{StopsAt, StopsWhile}
-use Rattle.run_units.proofs.Swapping.{line_asks}
-use Rattle.step_units.specs.Stepped.{StopLeads, LeadsFrom, StopsFrom}
-use Rattle.step_units.specs.Lines.{LineLeads}
-use Rattle.step_units.proofs.LinesContinue.{moves_continue}
-use Rattle.swapper.specs.Putting.{HoldsThere, PutOut, putting_out}
-use Rattle.step_units.proofs.Asking.{hands_made, hands_stop}
-use Rattle.step_units.proofs.Finding.{interrupt_waits}
-use Rattle.step_units.proofs.PuttingOut.{in_comes, out_comes, out_stops}
-use Rattle.step_units.proofs.Stopping.{stops_here}
+use Rattle.vm_core.specs.Leads.{Leads}
+use Rattle.vm_core.specs.Moved.{Moved, moving_hands}
+use Rattle.vm_core.specs.Stops.{StopsAt, StopsWhile}
+use Rattle.vm_core.proofs.Swapping.{line_asks}
+use Rattle.vm_core.specs.Stepped.{StopLeads, LeadsFrom, StopsFrom}
+use Rattle.vm_core.specs.StepUnitsLines.{LineLeads}
+use Rattle.vm_core.proofs.LinesContinue.{moves_continue}
+use Rattle.vm_core.specs.Putting.{HoldsThere, PutOut, putting_out}
+use Rattle.vm_core.proofs.Asking.{hands_made, hands_stop}
+use Rattle.vm_core.proofs.Finding.{interrupt_waits}
+use Rattle.vm_core.proofs.PuttingOut.{in_comes, out_comes, out_stops}
+use Rattle.vm_core.proofs.Stopping.{stops_here}
 use Rattle.vm_core.specs.Choosing.{steps_by}
 use Rattle.vm_core.specs.Runs.{IsSteady}
 use Rattle.vm_core.specs.Running.{UnderMark, CountsTo, RunLeads}

@@ -8,8 +8,8 @@ use Rattle.flat_state.specs.Flat.{Inputs}
 use Rattle.machine_state.specs.Machine.{Standing}
 use Rattle.run_model.specs.State.{State}
 use Rattle.vm_core.specs.Leading.{FillsLead, ToldAt}
-use Rattle.step_units.specs.Stepped.{StepLeads, AtSome, LeadsFrom, StopsFrom}
-use Rattle.step_units.specs.Rests.{before_done}
+use Rattle.vm_core.specs.Stepped.{StepLeads, AtSome, LeadsFrom, StopsFrom}
+use Rattle.vm_core.specs.StepUnitsRests.{before_done}
 use Rattle.vm_core.specs.Rests.{begun_by, BegunAt}
 use Rattle.vm_core.specs.Begun.{Begun}
 use Rattle.vm_core.proofs.BegunTold.{begun_told, none_between}

@@ -11,7 +11,7 @@ use Rattle.machine_state.specs.Machine.{Standing}
 use Rattle.run_model.specs.declared.mark.Mark.{Mark}
 use Rattle.run_model.specs.State.{State}
 use Rattle.run_model.specs.Next.{next_unit}
-use Rattle.run_units.specs.Leads.{Leads}
+use Rattle.vm_core.specs.Leads.{Leads}
 use Rattle.vm_core.specs.Cores.{StandsIn}
 use Rattle.film_core.specs.Films.{Filming}
 use Rattle.film_core.specs.Marks.{mark_behind, lines_behind}

@@ -13,7 +13,7 @@ use Rattle.run_model.specs.declared.mark.Mark.{Mark}
 use Rattle.run_model.specs.declared.mark.Mark.TheVariants as marks
 use Rattle.run_model.specs.State.{State}
 use Rattle.run_model.specs.Next.{next_unit}
-use Rattle.run_units.specs.Leads.{Leads}
+use Rattle.vm_core.specs.Leads.{Leads}
 use Rattle.vm_core.specs.FirstProcesses.{IsNew}
 use Rattle.vm_core.specs.Cores.{StandsIn}
 use Rattle.vm_core.specs.Lawful.{IsJournalOf}

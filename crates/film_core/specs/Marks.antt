@@ -9,7 +9,7 @@ use Rattle.page_model.specs.Swapper.{swap_choice}
 use Rattle.run_model.specs.declared.mark.Mark.{Mark}
 use Rattle.run_model.specs.declared.mark.Mark.TheVariants as marks
 use Rattle.run_model.specs.After.{interrupt_mark, swap_mark, completed, moved_on, brought_in, put_out, audited}
-use Rattle.swapper.specs.Runners.{runners_of}
+use Rattle.vm_core.specs.Runners.{runners_of}
 
 -- the mark of a line, where so many instructions are counted, as a machine has it
 abbrev pub marked_by : Kernel → ℕ → Event → Mark

@@ -14,10 +14,10 @@ use Rattle.run_model.specs.State.{State, start}
 use Rattle.run_model.specs.Next.{next_unit, last_turned}
 use Rattle.run_model.specs.Lawful.{Follows}
 use Rattle.run_laws.specs.Running.{CanRun}
-use Rattle.run_units.specs.Leads.{Leads}
-use Rattle.step_units.specs.Machines.{MachineAt}
-use Rattle.step_units.specs.Stepped.{StepLeads}
-use Rattle.step_units.specs.Lines.{IsOver, IsClear}
+use Rattle.vm_core.specs.Leads.{Leads}
+use Rattle.vm_core.specs.Machines.{MachineAt}
+use Rattle.vm_core.specs.Stepped.{StepLeads}
+use Rattle.vm_core.specs.StepUnitsLines.{IsOver, IsClear}
 use Rattle.vm_core.specs.Choosing.{turn_after}
 use Rattle.vm_core.specs.Cores.{StandsIn}
 use Rattle.film_core.specs.Films.{IsInOrder}

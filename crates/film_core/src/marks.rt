@@ -3,10 +3,10 @@
 ghost use Rattle.std.specs.Prelude.{◌≡◌, ◌≤◌, ◌↔◌, true};
 ghost use Rattle.flat_state.specs.Journal.{counted};
 ghost use Rattle.machine_state.specs.Going.{IsRunning};
-ghost use Rattle.run_units.specs.LastMoves.{last_moves};
-ghost use Rattle.swapper.specs.Spans.{moves};
+ghost use Rattle.vm_core.specs.LastMoves.{last_moves};
+ghost use Rattle.page_laws.specs.Spans.{moves};
 ghost use Rattle.run_model.specs.Next.{last_turned};
-ghost use Rattle.swapper.specs.Runners.{choice_of};
+ghost use Rattle.vm_core.specs.Runners.{choice_of};
 ghost use Rattle.run_model.specs.After.{swap_mark, completed, moved_on, brought_in, put_out, audited};
 ghost use Rattle.film_core.specs.Marks.{marked_by, marked_if, mark_behind, lines_behind};
 

@@ -3,9 +3,9 @@ ghost use Rattle.io_edge.specs.WithFiles.{stores};
 ghost use Rattle.std.specs.Prelude.{◌≡◌, ◌+◌, ◌<◌, ◌≤◌, ◌^◌, length, IfOk, IfErr};
 ghost use Rattle.flat_state.specs.Journal.{instructions_of};
 ghost use Rattle.machine_state.specs.Outside.{Asks, stop_of, TransfersPages};
-ghost use Rattle.run_units.specs.LastMoves.{last_moves};
-ghost use Rattle.step_units.specs.Sizes.{KeptAtStop};
-ghost use Rattle.step_units.specs.Stepped.{AtSome, LeadsFrom, StopsFrom};
+ghost use Rattle.vm_core.specs.LastMoves.{last_moves};
+ghost use Rattle.vm_core.specs.Sizes.{KeptAtStop};
+ghost use Rattle.vm_core.specs.Stepped.{AtSome, LeadsFrom, StopsFrom};
 ghost use Rattle.vm_core.specs.Running.{CountsTo};
 ghost use Rattle.film_core.specs.Ways.{StepSettled, WayAt};
 

@@ -12,9 +12,9 @@ use Rattle.swap_book.specs.Owners.{u_pieces}
 use Rattle.swap_book.specs.Placing.{Wanted, one, wanted}
 use Rattle.flat_state.specs.declared.change.Change.{Change}
 use Rattle.flat_state.specs.declared.change.Change.TheVariants.{Resize, Fork, Exec}
-use Rattle.page_model.specs.Pages.{SpacePages, numbered, data_in, stack_in}
-use Rattle.page_model.specs.Placement.{space_number, slots_of, sharers, sharers_in}
-use Rattle.page_model.specs.Place.{data_count, stack_count, facts_of}
+use Rattle.kernel_model.specs.Pages.{SpacePages, numbered, data_in, stack_in}
+use Rattle.kernel_model.specs.Placement.{space_number, slots_of, sharers, sharers_in}
+use Rattle.kernel_model.specs.Place.{data_count, stack_count, facts_of}
 use Rattle.kernel_model.specs.Kernel.{Life, HoldsSpace, Kernel, Proc}
 use Rattle.kernel_model.specs.Coupled.{SameTables, Fits, image_text}
 use Rattle.kernel_model.specs.Sound.{TextFits}

@@ -10,8 +10,8 @@ use Rattle.user_vax.specs.Operands.{register}
 use Rattle.user_vax.specs.Effects.{Effect}
 use Rattle.user_vax.specs.Instruction.{instruction}
 use Rattle.flat_state.specs.Change.{apply_writes}
-use Rattle.page_model.specs.Rank.{HasRoom}
-use Rattle.page_model.specs.Placement.{Placement}
+use Rattle.kernel_model.specs.Rank.{HasRoom}
+use Rattle.kernel_model.specs.Placement.{Placement}
 use Rattle.flat_model.specs.declared.calls.SystemCall.{SystemCall}
 use Rattle.flat_model.specs.Calls.{call_of, reply_of}
 use Rattle.flat_model.specs.Instruction.{instruction_in}

@@ -12,7 +12,7 @@ use Rattle.kernel_model.specs.Numbers.{Numbered}
 use Rattle.kernel_model.specs.Start.{ImagesFit}
 use Rattle.flat_model.specs.Asked.{change_wanted, asks}
 use Rattle.flat_model.specs.Step.{flat_step}
-use Rattle.page_model.specs.Place.{facts_of}
+use Rattle.kernel_model.specs.Place.{facts_of}
 
 -- a change wants the same pieces by the placement and by the flat state
 abbrev pub ChangeAsksAgree : Type 0

@@ -5,8 +5,8 @@ ghost use Rattle.flat_state.specs.Flat.{FlatState, NamedImage, Inputs, start_sta
 ghost use Rattle.vm_facts.specs.declared.entry.Entry.{Entry};
 ghost use Rattle.vm_facts.specs.declared.page.Page.{Page};
 ghost use Rattle.aout_image.specs.Image.{judged_image};
-ghost use Rattle.page_model.specs.Placement.{Placement};
-ghost use Rattle.page_model.specs.Rank.{HasRoom};
+ghost use Rattle.kernel_model.specs.Placement.{Placement};
+ghost use Rattle.kernel_model.specs.Rank.{HasRoom};
 ghost use Rattle.kernel_model.specs.Start.{ImagesFit};
 ghost use Rattle.flat_model.specs.Run.{Point, flat_run};
 ghost use Rattle.flat_model.specs.Step.{flat_step};

@@ -9,6 +9,10 @@ pub use Rattle.page_laws.proofs.Moves.Steps as PageLawsMovesSteps
 pub use Rattle.page_laws.proofs.Ownership.Changes as PageLawsOwnershipChanges
 pub use Rattle.page_laws.proofs.Ownership.Pages as PageLawsOwnershipPages
 pub use Rattle.page_laws.proofs.Ownership.Spaces
+pub use Rattle.page_laws.proofs.Moves.Units
+pub use Rattle.page_laws.proofs.Moves.Stays
+pub use Rattle.page_laws.proofs.Bytes.Others
+pub use Rattle.page_laws.proofs.Moves.Puts
 pub mod Registers
 pub mod Machine
 pub mod Flat

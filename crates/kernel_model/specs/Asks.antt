@@ -3,16 +3,16 @@
 -- flat_model, and `asks_agree` of flat_laws joins the two views.
 use Rattle.std.specs.Prelude.{◌≡◌, ◌≢◌, ℕ, zero, suc, ◌+◌, ◌*◌, ◌==◌, Bool, true, false, cond, List, [], ◌∷◌, ◌++◌, length, drop, Option, Some, None, Result}
 use Rattle.vm_facts.specs.declared.page.Page.TheVariants.{Text}
-use Rattle.flat_state.specs.AoutImageImage.{Image}
-use Rattle.flat_state.specs.AoutImageImageSpecs.{image_data_pages}
+use Rattle.page_model.specs.Image.{Image}
+use Rattle.page_model.specs.AoutImageImage.{image_data_pages}
 use Rattle.page_model.specs.Chunks.{pieces, text_pieces}
 use Rattle.page_model.specs.Owner.{Owner}
 use Rattle.page_model.specs.Owner.TheVariants as owners
 use Rattle.page_model.specs.Owners.{u_pieces}
 use Rattle.page_model.specs.Holdings.{Holdings}
 use Rattle.page_model.specs.Placing.{Wanted, wanted, place_all}
-use Rattle.flat_state.specs.declared.change.Change.{Change}
-use Rattle.flat_state.specs.declared.change.Change.TheVariants.{Resize, Fork, Lend, Exec, End}
+use Rattle.page_model.specs.Change.{Change}
+use Rattle.page_model.specs.Change.TheVariants.{Resize, Fork, Lend, Exec, End}
 use Rattle.page_model.specs.Pages.{numbered}
 use Rattle.page_model.specs.Placement.{Placement, Starting, space_number, slots_of, sharers, start_placement}
 use Rattle.page_model.specs.Place.{data_count, stack_count, facts_numbered}

@@ -6,15 +6,15 @@ use Rattle.vm_facts.specs.declared.entry.Entry.{Entry}
 use Rattle.page_model.specs.Chunks.{pieces}
 use Rattle.page_model.specs.Owner.TheVariants as owners
 use Rattle.page_model.specs.Holdings.{Holdings, kept}
-use Rattle.flat_state.specs.declared.change.Change.{Change}
-use Rattle.flat_state.specs.declared.change.Change.TheVariants.{Keep, Resize, Fork, Lend, Exec, Reap, Sleep, End}
-use Rattle.flat_state.specs.Change.{with_results}
-use Rattle.flat_state.specs.Journal.{append}
+use Rattle.page_model.specs.Change.{Change}
+use Rattle.page_model.specs.Change.TheVariants.{Keep, Resize, Fork, Lend, Exec, Reap, Sleep, End}
+use Rattle.page_model.specs.FlatStateChange.{with_results}
+use Rattle.page_model.specs.Journal.{append}
 use Rattle.page_model.specs.Pages.{numbered}
 use Rattle.page_model.specs.Placement.{Placement, image_of, sharers}
 use Rattle.page_model.specs.Place.{Changing, place_change}
 use Rattle.kernel_model.specs.Kernel.{Life, New, HoldsSpace, LendsSpace, Ended, Proc, StartBytes, Kernel}
-use Rattle.flat_state.specs.AoutImageImage.{Image}
+use Rattle.page_model.specs.Image.{Image}
 
 -- Records.
 

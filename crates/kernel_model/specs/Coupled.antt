@@ -1,11 +1,11 @@
 -- The machine stands for a flat state: the same processes and spaces, and the bytes of each page where its state says.
 use Rattle.std.specs.Prelude.{◌≡◌, ℕ, ◌*◌, Bool, true, false, List, [], ◌∷◌, length, map, Option, Some, None}
-use Rattle.flat_state.specs.Space.{Space}
-use Rattle.flat_state.specs.Flat.{Process, FlatState, NamedImage, image_numbered, spaces_of}
+use Rattle.page_model.specs.Space.{Space}
+use Rattle.page_model.specs.Flat.{Process, FlatState, NamedImage, image_numbered, spaces_of}
 use Rattle.vm_facts.specs.declared.page.Page.{Page}
 use Rattle.vm_facts.specs.declared.page.Page.TheVariants.{Data, Stack, Text}
 use Rattle.vm_facts.specs.declared.regs.Regs.{Regs}
-use Rattle.flat_state.specs.AoutImageImageSpecs.{page_at}
+use Rattle.page_model.specs.AoutImageImage.{page_at}
 use Rattle.page_model.specs.Owner.TheVariants as owners
 use Rattle.page_model.specs.Holdings.{block_in}
 use Rattle.page_model.specs.Pages.{SpacePages, numbered}

@@ -3,7 +3,7 @@ use Rattle.std.specs.Prelude.{Bool, true, false, List, [], ◌∷◌, ◌++◌, 
 use Rattle.vm_facts.specs.declared.page.Page.{Page}
 use Rattle.vm_facts.specs.declared.page.PageState.{PageState}
 use Rattle.vm_facts.specs.declared.page.PageState.TheVariants.{Valid}
-use Rattle.flat_state.specs.PageNames.{beside, is_among}
+use Rattle.page_model.specs.PageNames.{beside, is_among}
 use Rattle.page_model.specs.Placement.{Placement, state_of, is_dirty, page_of}
 use Rattle.page_model.specs.Runs.{Run, run_out}
 use Rattle.page_model.specs.Hands.{expire, taken}

@@ -3,7 +3,7 @@ use Rattle.std.specs.Prelude.{◌≡◌, ℕ, ◌<◌, ◌≤◌, true, false, L
 use Rattle.vm_facts.specs.Lists.{times}
 use Rattle.vm_facts.specs.declared.page.Page.{Page}
 use Rattle.vm_facts.specs.declared.page.PageState.TheVariants.{Valid, Invalid}
-use Rattle.flat_state.specs.PageNames.{number_of, pages_from}
+use Rattle.page_model.specs.PageNames.{number_of, pages_from}
 use Rattle.page_model.specs.Placement.{Placement, state_of, is_dirty}
 use Rattle.page_model.specs.Conditions.{EachPage}
 use Rattle.page_model.specs.Runs.{is_near}

@@ -5,15 +5,15 @@ use Rattle.vm_facts.specs.declared.page.Page.{Page}
 use Rattle.vm_facts.specs.declared.page.PageState.TheVariants.{Unfilled, Valid}
 use Rattle.page_model.specs.Holdings.{Holdings}
 use Rattle.page_model.specs.Placing.{Wanted, place_all}
-use Rattle.flat_state.specs.Space.{Space, address_in}
-use Rattle.flat_state.specs.Flat.{Holds, Process, FlatState, NamedImage, Inputs, process_of, image_numbered, start_state}
-use Rattle.flat_state.specs.Numbers.{IsNumbered}
-use Rattle.flat_state.specs.Lenders.{LendsStand}
-use Rattle.flat_state.specs.Writes.{IsByteOf}
-use Rattle.flat_state.specs.PageNames.{pages_from, number_of}
-use Rattle.flat_state.specs.Change.{NamesChild}
-use Rattle.flat_state.specs.declared.change.Change.{Change}
-use Rattle.flat_state.specs.declared.change.Change.TheVariants.{Exec}
+use Rattle.page_model.specs.Space.{Space, address_in}
+use Rattle.page_model.specs.Flat.{Holds, Process, FlatState, NamedImage, Inputs, process_of, image_numbered, start_state}
+use Rattle.page_model.specs.Numbers.{IsNumbered}
+use Rattle.page_model.specs.Lenders.{LendsStand}
+use Rattle.page_model.specs.Writes.{IsByteOf}
+use Rattle.page_model.specs.PageNames.{pages_from, number_of}
+use Rattle.page_model.specs.FlatStateChange.{NamesChild}
+use Rattle.page_model.specs.Change.{Change}
+use Rattle.page_model.specs.Change.TheVariants.{Exec}
 use Rattle.page_model.specs.Pages.{Zeros}
 use Rattle.page_model.specs.Placement.{Placement, Due, CopyOf, Starting, IsThere, due_of_page, state_of, filling_of}
 use Rattle.page_model.specs.Hands.{hand_move}

@@ -1,6 +1,6 @@
 -- The whole machine as lists, and what each of its steps does to them. The machine of the pager is told by this.
 use Rattle.std.specs.Prelude.{ℕ, ◌==◌, Bool, cond, not, List, [], ◌∷◌, length, map, filter, set, Option, Some, None}
-use Rattle.flat_state.specs.Flat.{Holding, Holds, Lends, Zombie, cleared}
+use Rattle.page_model.specs.Flat.{Holding, Holds, Lends, Zombie, cleared}
 use Rattle.vm_facts.specs.declared.page.Page.{Page}
 use Rattle.vm_facts.specs.declared.page.PageState.{PageState}
 use Rattle.vm_facts.specs.declared.page.PageState.TheVariants.{Valid}
@@ -8,9 +8,9 @@ use Rattle.vm_facts.specs.declared.regs.Regs.{Regs}
 use Rattle.vm_facts.specs.declared.entry.Entry.{Entry}
 use Rattle.vm_facts.specs.declared.entry.Entry.TheVariants as entries
 use Rattle.page_model.specs.Holdings.{Holdings}
-use Rattle.flat_state.specs.Journal.{append}
+use Rattle.page_model.specs.Journal.{append}
 use Rattle.page_model.specs.Pages.{frame_of}
-use Rattle.flat_state.specs.PageNames.{same_page}
+use Rattle.page_model.specs.PageNames.{same_page}
 use Rattle.page_model.specs.Frames.{at_frame, set_frame}
 use Rattle.page_model.specs.Placement.{Placement, Transfer, Part, Errand, Writes, Reads, Due, Start, CopyOf, state_of, due_of_page}
 use Rattle.page_model.specs.Moves.{touch}

@@ -1,3 +1,13 @@
+pub use Rattle.page_model.specs.Placement
+pub use Rattle.page_model.specs.Rank
+pub use Rattle.page_model.specs.Place
+pub use Rattle.page_model.specs.Pages
+pub use Rattle.page_model.specs.Swapper
+pub use Rattle.page_model.specs.Hands
+pub use Rattle.page_model.specs.Serve
+pub use Rattle.page_model.specs.Ownership
+pub use Rattle.page_model.specs.Stored
+pub use Rattle.page_model.specs.Conditions
 pub mod Kernel
 pub mod ChangeStep
 pub mod UPage

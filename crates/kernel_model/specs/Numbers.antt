@@ -1,8 +1,8 @@
 -- Numbers of spaces and of processes: no two are one, those to come are larger than all, and who lives is a resident.
 use Rattle.std.specs.Prelude.{◌≡◌, ℕ, Bool, true, false, map}
-use Rattle.flat_state.specs.declared.change.Change.{Change}
-use Rattle.flat_state.specs.declared.change.Change.TheVariants.{Resize, Fork, Lend, Exec, End}
-use Rattle.flat_state.specs.Numbers.{AllDistinct, AllBelow}
+use Rattle.page_model.specs.Change.{Change}
+use Rattle.page_model.specs.Change.TheVariants.{Resize, Fork, Lend, Exec, End}
+use Rattle.page_model.specs.Numbers.{AllDistinct, AllBelow}
 use Rattle.page_model.specs.Pages.{numbered}
 use Rattle.page_model.specs.Placement.{Placement, space_number}
 use Rattle.page_model.specs.Conditions.{LosesPages}

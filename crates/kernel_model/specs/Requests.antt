@@ -6,9 +6,9 @@ use Rattle.vm_facts.specs.declared.page.Page.{Page}
 use Rattle.vm_facts.specs.declared.page.Page.TheVariants.{Data, Stack, Text}
 use Rattle.vm_facts.specs.declared.entry.Entry.{Entry}
 use Rattle.vm_facts.specs.declared.entry.Entry.TheVariants as entries
-use Rattle.flat_state.specs.AoutImageImage.{Image}
-use Rattle.flat_state.specs.AoutImageImageSpecs.{offset_of, given_of}
-use Rattle.flat_state.specs.Flat.{Inputs}
+use Rattle.page_model.specs.Image.{Image}
+use Rattle.page_model.specs.AoutImageImage.{offset_of, given_of}
+use Rattle.page_model.specs.Flat.{Inputs}
 use Rattle.page_model.specs.Owner.TheVariants as owners
 use Rattle.page_model.specs.Holdings.{Holdings, block_in}
 use Rattle.page_model.specs.Ownership.{block_of}

@@ -2,10 +2,10 @@
 use Rattle.std.specs.Prelude.{◌≡◌, ℕ, ◌*◌, ◌≤◌, Bool, true, false, ◌||◌, List, [], ◌∷◌, length, Option, Some, None, ◌<◌}
 use Rattle.vm_facts.specs.declared.page.Page.{Page}
 use Rattle.vm_facts.specs.declared.page.Page.TheVariants.{Text}
-use Rattle.flat_state.specs.AoutImageImageSpecs.{Loaded, data_given, image_data_pages, page_at}
-use Rattle.flat_state.specs.Flat.{NamedImage, image_numbered}
+use Rattle.page_model.specs.AoutImageImage.{Loaded, data_given, image_data_pages, page_at}
+use Rattle.page_model.specs.Flat.{NamedImage, image_numbered}
 use Rattle.page_model.specs.Pages.{numbered}
-use Rattle.flat_state.specs.PageNames.{same_page}
+use Rattle.page_model.specs.PageNames.{same_page}
 use Rattle.page_model.specs.Placement.{Placement, Due, Start, CopyOf, due_of_page, slots_of}
 use Rattle.page_model.specs.Rank.{HandsStand}
 use Rattle.page_model.specs.Ownership.{OneOwner}

@@ -1,6 +1,6 @@
 -- What must be so of processes beside the bytes, for a machine to stand for a flat state.
 use Rattle.std.specs.Prelude.{◌≡◌, ℕ, Bool, true, false, List, Option, Some, None}
-use Rattle.flat_state.specs.Flat.{Process, FlatState, NamedImage, process_of, holds_space}
+use Rattle.page_model.specs.Flat.{Process, FlatState, NamedImage, process_of, holds_space}
 use Rattle.page_model.specs.Placement.{Placement}
 use Rattle.page_model.specs.Swapper.{is_out}
 use Rattle.kernel_model.specs.Kernel.{Kernel}

@@ -1,10 +1,10 @@
 -- The whole machine at the start of a run, and how first processes come into it one by one.
 use Rattle.std.specs.Prelude.{◌≡◌, ℕ, ◌+◌, ◌*◌, ◌≤◌, false, List, [], ◌∷◌, ◌++◌, length, map, Some}
-use Rattle.flat_state.specs.Space.{Space}
-use Rattle.flat_state.specs.Flat.{Process, NamedImage, Inputs, image_numbered, argument_area, start_page, start_regs, start_state, spaces_of}
+use Rattle.page_model.specs.Space.{Space}
+use Rattle.page_model.specs.Flat.{Process, NamedImage, Inputs, image_numbered, argument_area, start_page, start_regs, start_state, spaces_of}
 use Rattle.vm_facts.specs.declared.page.Page.TheVariants.{Stack}
-use Rattle.flat_state.specs.AoutImageImage.{Image}
-use Rattle.flat_state.specs.AoutImageImageSpecs.{IsSound, text_pages_of}
+use Rattle.page_model.specs.Image.{Image}
+use Rattle.page_model.specs.AoutImageImage.{IsSound, text_pages_of}
 use Rattle.page_model.specs.Holdings.{Holdings}
 use Rattle.page_model.specs.Placement.{Placement, Start, Starting, new_pages, start_placement}
 use Rattle.kernel_model.specs.Kernel.{HoldsSpace, Proc, StartBytes, Kernel, life_of}

@@ -6,8 +6,8 @@ use Rattle.page_model.specs.Owner.{Owner}
 use Rattle.page_model.specs.Owner.TheVariants as owners
 use Rattle.page_model.specs.Owners.{same_owner, u_pieces}
 use Rattle.page_model.specs.Placing.{Wanted}
-use Rattle.flat_state.specs.declared.change.Change.{Change}
-use Rattle.flat_state.specs.declared.change.Change.TheVariants.{Reap}
+use Rattle.page_model.specs.Change.{Change}
+use Rattle.page_model.specs.Change.TheVariants.{Reap}
 use Rattle.page_model.specs.Pages.{numbered}
 use Rattle.page_model.specs.Placement.{slots_of, sharers}
 use Rattle.page_model.specs.Place.{data_count, stack_count}
@@ -16,7 +16,7 @@ use Rattle.page_model.specs.Ownership.{text_pieces_while, u_blocks}
 use Rattle.kernel_model.specs.Kernel.{Life, Kernel, Proc}
 use Rattle.kernel_model.specs.Sound.{lives}
 use Rattle.kernel_model.specs.ChangeStep.{space_of_life, life_of_proc, gave_back}
-use Rattle.flat_state.specs.AoutImageImage.{Image}
+use Rattle.page_model.specs.Image.{Image}
 
 -- the lengths of the pieces that an owner needs in a machine
 abbrev pub needed : Kernel → Owner → List ℕ

@@ -1,7 +1,7 @@
 -- The u page of a process that is out: its registers, its codes and the sizes of its space.
 use Rattle.std.specs.Prelude.{◌≡◌, ℕ, ◌+◌, ◌*◌, ◌==◌, Bool, true, false, List, [], ◌∷◌, ◌++◌, length, replicate, flat_map, ◌/◌, ◌%◌, ◌^◌, suc, zero, get_or, ◌<◌}
 use Rattle.vm_facts.specs.declared.regs.Regs.{Regs}
-use Rattle.flat_state.specs.AoutImageImageSpecs.{word_bytes}
+use Rattle.page_model.specs.AoutImageImage.{word_bytes}
 
 -- The u page.
 

@@ -9,10 +9,10 @@ use Rattle.vm_facts.specs.declared.entry.Entry.{Entry}
 use Rattle.vm_facts.specs.declared.entry.Entry.TheVariants as entries
 use Rattle.page_model.specs.Owner.TheVariants as owners
 use Rattle.page_model.specs.Holdings.{Holdings, block_in}
-use Rattle.flat_state.specs.Flat.{FlatState, NamedImage}
-use Rattle.flat_state.specs.Change.{apply_change, apply_writes}
-use Rattle.flat_state.specs.declared.change.Change.{Change}
-use Rattle.flat_state.specs.declared.change.Change.TheVariants.{Keep, Lend, Exec, End}
+use Rattle.page_model.specs.Flat.{FlatState, NamedImage}
+use Rattle.page_model.specs.FlatStateChange.{apply_change, apply_writes}
+use Rattle.page_model.specs.Change.{Change}
+use Rattle.page_model.specs.Change.TheVariants.{Keep, Lend, Exec, End}
 use Rattle.page_model.specs.Pages.{numbered}
 use Rattle.page_model.specs.Placement.{slots_of}
 use Rattle.page_model.specs.Stored.{stored_at, store_at}
@@ -20,7 +20,7 @@ use Rattle.kernel_model.specs.Kernel.{Kernel, Proc, Life, New, HoldsSpace, Lends
 use Rattle.kernel_model.specs.UPage.{u_page, regs_in}
 use Rattle.kernel_model.specs.ChangeStep.{change_step, ran_by, pass_step, space_of_life}
 use Rattle.page_model.specs.Place.{facts_of}
-use Rattle.flat_state.specs.AoutImageImage.{Image}
+use Rattle.page_model.specs.Image.{Image}
 
 -- Spaces that are lent.
 

@@ -18,7 +18,7 @@ use Rattle.flat_state.proofs.SpotsBeside.{text_beside, data_beside, stack_beside
 use Rattle.page_model.specs.Placement.{state_of, image_of, slots_of}
 use Rattle.page_model.specs.PageBytes.{IsWritable}
 use Rattle.page_model.specs.Ownership.{OwnsFrames}
-use Rattle.page_laws.proofs.Ownership.Pages.{touch_owner}
+use Rattle.kernel_laws.proofs.PageLawsOwnershipPages.{touch_owner}
 use Rattle.kernel_model.specs.Kernel.{Kernel, frame_bytes, write_step, write_by_state}
 use Rattle.table_steps.specs.Machine.{Standing}
 use Rattle.table_steps.specs.UserMemory.{spot_in, page_at_spot, page_in, text_len, data_len, stack_len, read_by_state, read_page, read_spot, valid_frame, may_write_by, may_write_spot, kernel_answers, write_page, write_spot, writes_in, write_run, AreWhole, AreWritten, Wrote, WroteRun, IsLaidOut}

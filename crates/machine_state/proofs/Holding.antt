@@ -8,8 +8,8 @@ use Rattle.page_model.specs.Pages.{SpacePages, numbered, changed}
 use Rattle.page_model.specs.Moves.{drop_all}
 use Rattle.page_model.specs.Placement.{Placement, space_number}
 use Rattle.page_model.specs.Place.{place_entry, sized, resize, give_up_unless}
-use Rattle.page_laws.proofs.Lists.Pages.{mapped, changed_same, changed_other}
-use Rattle.page_laws.proofs.Ownership.Changes.{dropped_pages}
+use Rattle.kernel_laws.proofs.PageLawsListsPages.{mapped, changed_same, changed_other}
+use Rattle.kernel_laws.proofs.PageLawsOwnershipChanges.{dropped_pages}
 use Rattle.kernel_model.specs.Asks.{HasSpace}
 use Rattle.kernel_model.specs.Kernel.{Life, HoldsSpace, Ended, Proc}
 use Rattle.kernel_model.specs.ChangeStep.{life_of_proc, with_proc, without_proc, is_ended, orphaned_procs, left_procs}

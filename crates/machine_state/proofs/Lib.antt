@@ -10,8 +10,8 @@ pub use Rattle.kernel_laws.proofs.Sound.Allowed as KernelLawsSoundAllowed
 pub use Rattle.kernel_laws.proofs.Sound.Changes as KernelLawsSoundChanges
 pub use Rattle.kernel_laws.proofs.Sound.NumbersApart
 pub use Rattle.kernel_laws.proofs.Sound.Steps as KernelLawsSoundSteps
-pub use Rattle.page_laws.proofs.Lists.Pages as PageLawsListsPages
-pub use Rattle.page_laws.proofs.Moves.Units
+pub use Rattle.kernel_laws.proofs.PageLawsListsPages
+pub use Rattle.kernel_laws.proofs.Units
 pub use Rattle.table_steps.proofs.Records
 pub use Rattle.table_steps.proofs.Listed
 pub use Rattle.table_steps.proofs.Lives

@@ -4,8 +4,8 @@ use Rattle.vm_facts.specs.declared.entry.Entry.{Entry}
 use Rattle.swap_book.specs.Holdings.{Holdings}
 use Rattle.swap_book.specs.Book.{IsBook}
 use Rattle.page_model.specs.Ownership.{OneOwner}
-use Rattle.page_laws.proofs.Moves.Stays.{steady_stays}
-use Rattle.page_laws.proofs.Bytes.Others.{stays_same}
+use Rattle.kernel_laws.proofs.Stays.{steady_stays}
+use Rattle.kernel_laws.proofs.Others.{stays_same}
 use Rattle.kernel_model.specs.Kernel.{Kernel}
 use Rattle.kernel_model.specs.Coupled.{beside_kernel}
 use Rattle.kernel_model.specs.Sound.{Sound, lives}

@@ -9,8 +9,8 @@ use Rattle.flat_state.specs.declared.spot.Spot.{Spot}
 use Rattle.flat_state.specs.declared.spot.Spot.TheVariants.{Data, Stack}
 use Rattle.page_model.specs.Placement.{Placement, state_of}
 use Rattle.page_model.specs.Moves.{touch}
-use Rattle.page_laws.proofs.Due.Changes.{touch_due}
-use Rattle.page_laws.proofs.Moves.Puts.{rest_by_puts, touch_kept}
+use Rattle.kernel_laws.proofs.PageLawsDueChanges.{touch_due}
+use Rattle.kernel_laws.proofs.Puts.{rest_by_puts, touch_kept}
 use Rattle.kernel_model.specs.Kernel.{Kernel, write_step, write_by_state}
 use Rattle.kernel_laws.proofs.Machine.Shapes.{touch_shaped, sizes_kept}
 use Rattle.kernel_laws.proofs.Sound.NumbersApart.{write_numbered}

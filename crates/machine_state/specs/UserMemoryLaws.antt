@@ -23,10 +23,10 @@ use Rattle.page_model.specs.PageBytes.{IsWritable}
 use Rattle.page_model.specs.Moves.{touch, touch_to}
 use Rattle.page_model.specs.Ownership.{OwnsFrames}
 use Rattle.kernel_model.specs.Kernel.{Kernel, frame_bytes, write_step, write_by_state}
-use Rattle.page_laws.proofs.Lists.Frames.{at_set_same, at_set_other}
+use Rattle.kernel_laws.proofs.Frames.{at_set_same, at_set_other}
 use Rattle.std.proofs.lemmas.Option.{same_Some}
-use Rattle.page_laws.proofs.Lists.Pages.{put_state}
-use Rattle.page_laws.proofs.Moves.Steps.{page_in, put_other_state}
+use Rattle.kernel_laws.proofs.PageLawsListsPages.{put_state}
+use Rattle.kernel_laws.proofs.PageLawsMovesSteps.{page_in, put_other_state}
 use Rattle.kernel_laws.proofs.Machine.Shapes.{touch_shaped, image_kept, sizes_kept}
 use Rattle.std.specs.Borrow.{MutBor}
 use Rattle.machine_state.specs.declared.user_memory.Layout.{Layout}
@@ -37,7 +37,7 @@ use Rattle.table_steps.specs.UserMemory.{bytes_of, stack_len, spot_in, read_by_s
 -- A touch keeps the state of each page.
 
 page_cases : (q r : Page) → (r ≡ q) ⊎ (r ≢ q)
-page_cases q r = Rattle.page_laws.proofs.Lists.Pages.page_cases r q
+page_cases q r = Rattle.kernel_laws.proofs.PageLawsListsPages.page_cases r q
 
 -- a user write leaves the state of each page as it was
 pub touch_state : (p : Placement) (q r : Page) (f : ℕ) → IsWritable q → state_of p q ≡ Valid f → state_of (touch p q) r ≡ state_of p r

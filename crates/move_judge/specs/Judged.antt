@@ -6,7 +6,7 @@ use Rattle.vm_facts.specs.declared.entry.Entry.{Entry}
 use Rattle.io_edge.specs.FileHolding.{NamedFile}
 use Rattle.page_model.specs.Placement.{Due, CopyOf}
 use Rattle.machine_state.specs.Machine.{Standing}
-use Rattle.paging_units.specs.Made.{ground, MakesUnit}
+use Rattle.swapper.specs.Made.{ground, MakesUnit}
 use Rattle.paged_model.specs.declared.reason.Reason.{Reason}
 
 -- the unit of an entry that calls no device, and over which no page is locked

@@ -5,7 +5,7 @@ use Rattle.vm_facts.specs.declared.page.Page.{Page}
 use Rattle.vm_facts.specs.declared.entry.Entry.{Entry}
 use Rattle.io_edge.specs.FileHolding.{NamedFile}
 use Rattle.machine_state.specs.Machine.{Standing}
-use Rattle.paging_units.specs.Made.{ground, MakesUnit}
+use Rattle.swapper.specs.Made.{ground, MakesUnit}
 use Rattle.paged_model.specs.declared.reason.Reason.{Reason}
 
 -- with no reason the entry was made, with these pages locked; with one nothing was done

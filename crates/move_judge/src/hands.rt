@@ -5,7 +5,7 @@ ghost use Rattle.page_model.specs.Hands.{wants_moves, hand_run};
 ghost use Rattle.machine_state.specs.Going.{CanGoOn, IsRunning};
 ghost use Rattle.machine_state.specs.Calls.{IsRunOf};
 ghost use Rattle.machine_state.specs.Conditions.{HasStopped};
-ghost use Rattle.paging_units.specs.LastMoves.{last_moves};
+ghost use Rattle.swapper.specs.LastMoves.{last_moves};
 ghost use Rattle.paged_model.specs.Moves.{write_room, hand_reason};
 ghost use Rattle.move_judge.specs.Over.{JudgedOver};
 

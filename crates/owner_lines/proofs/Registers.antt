@@ -15,12 +15,12 @@ use Rattle.page_model.specs.Swapper.{is_out}
 use Rattle.kernel_model.specs.Kernel.{Kernel, Proc, Life, New, HoldsSpace, LendsSpace, Ended, life_of}
 use Rattle.kernel_model.specs.Coupled.{Outline, outline_of, outline_kept, KeepsRegs}
 use Rattle.kernel_model.specs.Start.{kept_of}
-use Rattle.kernel_laws.proofs.Flat.Numbered.{absent_none}
+use Rattle.run_laws.proofs.Numbered.{absent_none}
 use Rattle.machine_state.specs.Machine.{Standing}
 use Rattle.run_model.specs.State.{State}
 use Rattle.run_text.specs.Text.{parts}
-use Rattle.kernel_laws.proofs.Flat.Lists.{pid_of}
-use Rattle.kernel_laws.proofs.Machine.Tables.{kept_pid}
+use Rattle.run_laws.proofs.Lists.{pid_of}
+use Rattle.run_laws.proofs.Tables.{kept_pid}
 use Rattle.owner_lines.specs.Owners.{life_text, registers_text, process_line, process_lines, entries_line, hands_line, frame_lines, transfers_from, due_line, swap_lines, owners_text, owners_lines}
 use Rattle.owner_lines.specs.Account.{text_at, IsMachineAt}
 

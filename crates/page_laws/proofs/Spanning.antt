@@ -3,8 +3,8 @@ use Rattle.std.proofs.Common.{◌≡◌, ℕ, ◌+◌, ◌==◌, ◌<◌, ◌≤
 use Rattle.std.proofs.lemmas.List.{length-append}
 use Rattle.vm_facts.specs.declared.entry.Entry.{Entry}
 use Rattle.vm_facts.specs.declared.entry.Entry.TheVariants as entries
-use Rattle.flat_state.specs.Journal.{join_by, join, append_after, append_joined, append, appended, IsPlain}
-use Rattle.flat_state.proofs.Joins.{append_plain}
+use Rattle.page_model.specs.Journal.{join_by, join, append_after, append_joined, append, appended, IsPlain}
+use Rattle.page_model.proofs.Joins.{append_plain}
 use Rattle.page_laws.specs.Spans.{is_hands, ends_moving, adds, added, takings, moves_of}
 
 -- how long a journal is with one more unit, and how it ends

@@ -1,6 +1,6 @@
 -- Statement that what is due still stands after a change of a process.
 use Rattle.std.specs.Prelude.{◌≡◌, []}
-use Rattle.flat_state.specs.declared.change.Change.{Change as AnyChange}
+use Rattle.page_model.specs.Change.{Change as AnyChange}
 use Rattle.page_model.specs.Placement.{Placement}
 use Rattle.page_model.specs.Place.{Changing, place_change}
 use Rattle.page_model.specs.Conditions.{CanChange, ApartFrom}

@@ -5,8 +5,8 @@ use Rattle.vm_facts.specs.declared.page.Page.TheVariants.{Data, Stack, Text}
 use Rattle.vm_facts.specs.declared.page.PageState.TheVariants.{Valid, Invalid, Going}
 use Rattle.vm_facts.specs.declared.entry.Entry.{Entry}
 use Rattle.vm_facts.specs.declared.entry.Entry.TheVariants as entries
-use Rattle.flat_state.specs.declared.change.Change.{Change}
-use Rattle.flat_state.specs.declared.change.Change.TheVariants as changes
+use Rattle.page_model.specs.Change.{Change}
+use Rattle.page_model.specs.Change.TheVariants as changes
 use Rattle.page_model.specs.Pages.{frame_of, left_state}
 use Rattle.vm_facts.specs.Lists.{times}
 use Rattle.page_model.specs.Placement.{Placement, state_of, mark_of, is_dirty}

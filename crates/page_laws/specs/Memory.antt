@@ -5,7 +5,7 @@ use Rattle.vm_facts.specs.declared.page.Page.TheVariants.{Data, Stack, Text}
 use Rattle.vm_facts.specs.declared.page.PageState.TheVariants.{Valid}
 use Rattle.aout_image.specs.declared.Image.{Image}
 use Rattle.aout_image.specs.Image.{image_data_pages}
-use Rattle.flat_state.specs.PageNames.{number_of}
+use Rattle.page_model.specs.PageNames.{number_of}
 use Rattle.page_model.specs.Placement.{Placement, Source, Reads, slots_of, state_of, IsThere, data_filling}
 use Rattle.page_model.specs.Moves.{touch, get_run, drop_all}
 use Rattle.page_model.specs.Place.{filled, resize, fork_space, enter_space, remove_space, pages_of_space}

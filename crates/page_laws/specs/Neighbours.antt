@@ -2,7 +2,7 @@
 use Rattle.std.specs.Prelude.{◌≡◌, ◌≢◌, ◌⊎◌, ℕ, ◌+◌, ◌-◌, ◌<◌, ◌≤◌, true, false, List, length}
 use Rattle.vm_facts.specs.declared.page.Page.{Page}
 use Rattle.vm_facts.specs.declared.page.PageState.TheVariants.{Valid, Invalid, Unfilled, OnSwap}
-use Rattle.flat_state.specs.PageNames.{beside, is_among}
+use Rattle.page_model.specs.PageNames.{beside, is_among}
 use Rattle.vm_facts.specs.Lists.{times}
 use Rattle.page_model.specs.Placement.{Placement, slots_of, state_of, is_dirty}
 use Rattle.page_model.specs.Runs.{Run, chunk_of, desired_free}

@@ -1,16 +1,16 @@
 -- Statements that each frame and each block keeps one owner, step by step.
 use Rattle.std.specs.Prelude.{◌≡◌, ℕ, ◌*◌, ◌≤◌, Bool, List, length, Some}
-use Rattle.flat_state.specs.Flat.{FlatState, process_of}
+use Rattle.page_model.specs.Flat.{FlatState, process_of}
 use Rattle.vm_facts.specs.declared.page.Page.{Page}
 use Rattle.vm_facts.specs.declared.entry.Entry.{Entry}
 use Rattle.aout_image.specs.declared.Image.{Image}
 use Rattle.page_model.specs.Holdings.{Holdings}
 use Rattle.page_model.specs.Book.{IsBook}
-use Rattle.flat_state.specs.declared.change.Change.{Change as AnyChange}
+use Rattle.page_model.specs.Change.{Change as AnyChange}
 use Rattle.page_model.specs.Placement.{Placement, Starting, start_placement}
 use Rattle.page_model.specs.Moves.{touch_all}
 use Rattle.page_model.specs.Place.{Changing, place_entry, place_step, place_change, space_of_process}
-use Rattle.flat_state.specs.Change.{is_borrower}
+use Rattle.page_model.specs.FlatStateChange.{is_borrower}
 use Rattle.page_model.specs.Conditions.{CanPlace, CanChange, EntryShared, MayForget}
 use Rattle.page_model.specs.Ownership.{OwnsFrames, OneOwner, TextAside, block_of, OwnsBlocks}
 use Rattle.page_model.specs.PageBytes.{Bytes, Stores}

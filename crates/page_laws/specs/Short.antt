@@ -2,7 +2,7 @@
 use Rattle.std.specs.Prelude.{◌≡◌, ◌+◌, ◌≤◌, Bool, true, List, length}
 use Rattle.vm_facts.specs.declared.page.Page.{Page}
 use Rattle.vm_facts.specs.declared.entry.Entry.{Entry}
-use Rattle.flat_state.specs.Journal.{appended}
+use Rattle.page_model.specs.Journal.{appended}
 use Rattle.page_model.specs.Pages.{is_valid}
 use Rattle.page_model.specs.Placement.{Placement, state_of, IsThere}
 use Rattle.page_model.specs.Serve.{Serves}

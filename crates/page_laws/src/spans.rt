@@ -2,7 +2,7 @@
 ghost use Rattle.std.specs.Prelude.{◌≡◌, ℕ, ◌+◌, ◌<◌, ◌≤◌, Bool, true, List, ◌++◌, length};
 ghost use Rattle.vm_facts.specs.declared.page.Page.{Page};
 ghost use Rattle.vm_facts.specs.declared.entry.Entry.{Entry};
-ghost use Rattle.flat_state.specs.Journal.{appended};
+ghost use Rattle.page_model.specs.Journal.{appended};
 ghost use Rattle.page_model.specs.Placement.{Placement, IsThere};
 ghost use Rattle.page_model.specs.Serve.{Forces, Serves};
 ghost use Rattle.page_model.specs.Rank.{HandsStand, HasRoom};

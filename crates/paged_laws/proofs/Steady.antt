@@ -10,7 +10,7 @@ use Rattle.flat_state.specs.Lenders.{LendsStand}
 use Rattle.flat_state.specs.Journal.{IsUnit, AllUnits}
 use Rattle.page_model.specs.Placement.{Placement}
 use Rattle.kernel_model.specs.Start.{ImagesFit}
-use Rattle.flat_laws.specs.Whole.{AllSized}
+use Rattle.run_laws.specs.Whole.{AllSized}
 use Rattle.flat_model.specs.Run.{Point, due_at, process_of_entry, may_follow, ComesAt, first_if, entry_of_step}
 use Rattle.flat_model.proofs.Coming.{Came, came}
 use Rattle.run_model.specs.declared.mark.Mark.{Mark}

@@ -1,3 +1,10 @@
+pub use Rattle.machine_state.proofs.Transfers
+pub use Rattle.machine_state.proofs.Entries
+pub use Rattle.machine_state.proofs.UserFrames
+pub use Rattle.machine_state.proofs.Shows
+pub use Rattle.machine_state.proofs.Settling
+pub use Rattle.machine_state.proofs.FlatMemory
+pub use Rattle.machine_state.proofs.Listed
 pub mod Units
 pub mod LastMoves
 pub mod Stopping

@@ -9,3 +9,4 @@
 mod laws;
 
 pub use laws::{units_follow, units_keep};
+pub use machine_state;

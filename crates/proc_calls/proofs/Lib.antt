@@ -1,5 +1,6 @@
 pub use Rattle.fault_fill.proofs.Touching
 pub use Rattle.vfork_pass.proofs.Lives
+pub use Rattle.call_reads.proofs.Images
 pub mod Callers
 pub mod Leaving
 pub mod Exits

@@ -18,6 +18,7 @@ mod sizing;
 mod starting;
 mod writing;
 
+pub use call_reads;
 pub use children::{getpid, wait};
 pub use copying::{copy_due, copy_page};
 pub use ending::{exit, kill, leave_space};

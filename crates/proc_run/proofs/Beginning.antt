@@ -23,7 +23,7 @@ use Rattle.flat_state.specs.Flat.{Process, FlatState, NamedImage}
 use Rattle.flat_model.specs.Shown.{is_shown, read_where}
 use Rattle.kernel_model.specs.Kernel.{Kernel}
 use Rattle.machine_state.specs.UserMemory.{page_in, page_at_spot, spot_in, read_spot}
-use Rattle.fault_fill.specs.Growth.{space_of_pid}
+use Rattle.step_units.specs.Growth.{space_of_pid}
 use Rattle.proc_run.specs.Shown.{shown_in}
 use Rattle.proc_run.specs.Missed.{missed_behind, first_missed, page_missed}
 

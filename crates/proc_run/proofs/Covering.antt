@@ -23,8 +23,8 @@ use Rattle.machine_state.specs.Machine.{Standing}
 use Rattle.machine_state.specs.UserMemory.{page_in, kernel_answers, writes_in}
 use Rattle.user_step.specs.Slots.{may_where}
 use Rattle.flat_model.specs.Shown.{is_shown, read_where}
-use Rattle.fault_fill.specs.Growth.{space_of_pid}
-use Rattle.run_units.proofs.Calling.{calls_write_none}
+use Rattle.step_units.specs.Growth.{space_of_pid}
+use Rattle.step_units.proofs.Calling.{calls_write_none}
 use Rattle.proc_run.specs.Shown.{only, shown_in, WroteShown}
 
 -- it misses, or answers as another one that is answered so

@@ -33,9 +33,9 @@ use Rattle.step_units.specs.ProcCallsLeaving.{HasEnded, StopsAlive}
 use Rattle.step_units.specs.Ready.{Continues}
 use Rattle.step_units.proofs.CallsContinue.{reply_continues, end_continues}
 use Rattle.run_model.specs.State.{State}
-use Rattle.run_laws.proofs.Flows.{on_steps}
-use Rattle.run_units.specs.Touching.{RunsInSpace}
-use Rattle.run_units.specs.Serving.{At}
+use Rattle.economy_laws.proofs.Flows.{on_steps}
+use Rattle.step_units.specs.Touching.{RunsInSpace}
+use Rattle.step_units.specs.Serving.{At}
 use Rattle.step_units.specs.Rests.{ReplyRests, EndRests}
 use Rattle.step_units.specs.Stepped.{StepLeads, StopLeads, AtSome, LeadsFrom, StopsFrom}
 use Rattle.step_units.proofs.Ending.{ended, end_stops}

@@ -20,7 +20,7 @@ use Rattle.step_units.specs.Stepped.{CallLeads, LeadsFrom, StopsFrom}
 use Rattle.step_units.specs.Ready.{Continues}
 use Rattle.step_units.specs.Calls.{called_count}
 use Rattle.proc_run.specs.Missed.{WritesNothing}
-use Rattle.run_units.proofs.Calling.{calls_write_none}
+use Rattle.step_units.proofs.Calling.{calls_write_none}
 use Rattle.proc_run.specs.declared.advancing.Advance.{Advance}
 use Rattle.proc_run.specs.declared.advancing.Advance.TheVariants as advances
 use Rattle.proc_run.specs.Calls.{own_answers, CallComes, CallStops, MadeCall}

@@ -18,8 +18,8 @@ use Rattle.run_model.specs.Kinds.{ProcessRuns as Goes, GoesOn}
 use Rattle.run_model.specs.Next.{goes_on, turn_instructions, turn_unit, under, work, when}
 use Rattle.run_model.specs.State.{State}
 use Rattle.economy_laws.proofs.Turns.{all_three}
-use Rattle.run_units.specs.Serving.{At}
-use Rattle.run_units.specs.Touching.{RunsInSpace}
+use Rattle.step_units.specs.Serving.{At}
+use Rattle.step_units.specs.Touching.{RunsInSpace}
 use Rattle.proc_run.specs.Choosing.{is_space_holder, steps_by, may_run}
 use Rattle.proc_run.specs.Running.{AsksRun}
 use Rattle.proc_run.proofs.Ready.{ready_one}

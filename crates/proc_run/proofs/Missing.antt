@@ -27,11 +27,11 @@ use Rattle.flat_model.specs.Touched.{page_read, page_tested, page_of_access}
 use Rattle.user_step.specs.Slots.{may_where}
 use Rattle.flat_model.specs.Shown.{is_shown, read_where}
 use Rattle.run_model.specs.Wanted.{AllValid}
-use Rattle.run_units.proofs.Touching.{IsHit, AllHit, NotMissed, all_hit, granted_hit, Missing, read_missing, test_missing, SameSpots}
+use Rattle.step_units.proofs.Touching.{IsHit, AllHit, NotMissed, all_hit, granted_hit, Missing, read_missing, test_missing, SameSpots}
 use Rattle.proc_run.specs.Shown.{shown_in}
 use Rattle.flat_state.proofs.PageLists.{AllAmong}
-use Rattle.run_laws.proofs.Flows.{valid_among}
-use Rattle.run_units.proofs.Instructing.{append_one, hit_both, append_none}
+use Rattle.economy_laws.proofs.Flows.{valid_among}
+use Rattle.step_units.proofs.Instructing.{append_one, hit_both, append_none}
 
 -- The page of an access.
 

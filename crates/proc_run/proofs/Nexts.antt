@@ -19,12 +19,12 @@ use Rattle.flat_model.specs.Instruction.{instruction_in}
 use Rattle.flat_model.specs.Step.{reply_asked, written_process}
 use Rattle.flat_model.specs.Touched.{page_of_access, step_accesses, accesses_after, accesses_behind, call_accesses}
 use Rattle.run_model.specs.Wanted.{AllValid}
-use Rattle.run_units.proofs.Touching.{AllHit, NotMissed, SameSpots}
-use Rattle.run_units.proofs.Calling.{calls_write_none}
+use Rattle.step_units.proofs.Touching.{AllHit, NotMissed, SameSpots}
+use Rattle.step_units.proofs.Calling.{calls_write_none}
 use Rattle.proc_run.specs.Shown.{shown_in}
 use Rattle.proc_run.specs.Missed.{missed_byte, missed_by_call, missed_behind_by, missed_behind}
 use Rattle.flat_state.proofs.PageLists.{AllAmong}
-use Rattle.run_units.proofs.Instructing.{hit_both, append_none}
+use Rattle.step_units.proofs.Instructing.{hit_both, append_none}
 use Rattle.proc_run.proofs.Missing.{NextAt, hit_among, program_misses, Whole, program_whole}
 
 -- what the first byte that misses says of accesses: it is of the first page that isn't shown; where none misses all are

@@ -20,25 +20,25 @@ use Rattle.kernel_laws.proofs.Machine.Tables.{kept_at, outline_at}
 use Rattle.machine_state.specs.Machine.{Standing}
 use Rattle.machine_state.specs.UserMemory.{kernel_answers, page_in}
 use Rattle.machine_state.proofs.FlatMemory.{memory_covers}
-use Rattle.fault_fill.specs.Growth.{space_of_pid}
-use Rattle.call_reads.specs.Reading.{AreNamed}
+use Rattle.step_units.specs.Growth.{space_of_pid}
+use Rattle.step_units.specs.Reading.{AreNamed}
 use Rattle.flat_model.specs.Step.{written_process}
 use Rattle.flat_model.specs.Touched.{page_of_access, step_accesses, distinct, touched, touched_by, touched_in, touched_if}
-use Rattle.flat_laws.proofs.Asking.{own_space}
+use Rattle.economy_laws.proofs.FlatLawsAsking.{own_space}
 use Rattle.run_model.specs.State.{State}
 use Rattle.run_model.specs.Wanted.{touched_next, locked_by, locked, wanted, AllValid}
 use Rattle.run_model.specs.Snapshot.{before_absent}
 use Rattle.run_model.proofs.Wanting.{split_before, all_before, splits_wanted, all_unwanted}
-use Rattle.run_laws.specs.Machine.{Keeps}
-use Rattle.run_laws.specs.Standing.{IsText, HasText}
-use Rattle.run_laws.proofs.Flows.{on_running, on_steps}
-use Rattle.run_laws.proofs.Room.{run_few}
-use Rattle.run_laws.proofs.Touching.{found_process}
+use Rattle.economy_laws.specs.Machine.{Keeps}
+use Rattle.economy_laws.specs.Standing.{IsText, HasText}
+use Rattle.economy_laws.proofs.Flows.{on_running, on_steps}
+use Rattle.economy_laws.proofs.Room.{run_few}
+use Rattle.economy_laws.proofs.RunLawsTouching.{found_process}
 use Rattle.economy_laws.proofs.Left.{next_on}
-use Rattle.run_units.specs.Serving.{At}
-use Rattle.run_units.specs.Touching.{RunsInSpace}
-use Rattle.run_units.proofs.Touching.{SameSpots}
-use Rattle.run_units.proofs.Instructing.{same_spots}
+use Rattle.step_units.specs.Serving.{At}
+use Rattle.step_units.specs.Touching.{RunsInSpace}
+use Rattle.step_units.proofs.Touching.{SameSpots}
+use Rattle.step_units.proofs.Instructing.{same_spots}
 use Rattle.proc_run.specs.Shown.{shown_in}
 use Rattle.proc_run.specs.Missed.{first_missed, missed_behind, page_missed, valid_by, valid_only}
 use Rattle.proc_run.specs.Touching.{RunsWith}

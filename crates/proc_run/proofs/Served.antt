@@ -26,7 +26,7 @@ use Rattle.run_model.specs.State.{State}
 use Rattle.run_model.specs.Wanted.{touched_next, locked_by, locked}
 use Rattle.run_model.specs.Snapshot.{before_absent}
 use Rattle.run_model.proofs.Wanting.{split_before, all_before}
-use Rattle.run_units.proofs.Units.{leads_at}
+use Rattle.step_units.proofs.Units.{leads_at}
 use Rattle.step_units.specs.Machines.{MachineAt, RunsOn}
 use Rattle.step_units.specs.Stepped.{StepLeads, MarkEnds, StopLeads}
 use Rattle.step_units.specs.Running.{WaitsForPage, EndsUngrown, ServeLeads}

@@ -17,13 +17,13 @@ use Rattle.machine_state.specs.Going.{CanGoOn}
 use Rattle.machine_state.specs.Machine.{Standing}
 use Rattle.machine_state.specs.UserMemory.{CanLend}
 use Rattle.step_units.specs.Reading.{AreNamed}
-use Rattle.run_laws.proofs.LockedRoom.{locked_few}
-use Rattle.flat_laws.proofs.Sized.{sized_whole}
+use Rattle.economy_laws.proofs.LockedRoom.{locked_few}
+use Rattle.economy_laws.proofs.Sized.{sized_whole}
 use Rattle.run_model.specs.Next.{under}
 use Rattle.run_model.specs.State.{State}
 use Rattle.run_model.specs.Wanted.{locked}
-use Rattle.run_units.specs.Leads.{Leads}
-use Rattle.run_units.proofs.Units.{none_leads, leads_at}
+use Rattle.step_units.specs.Leads.{Leads}
+use Rattle.step_units.proofs.Units.{none_leads, leads_at}
 use Rattle.step_units.specs.Machines.{MachineAt}
 use Rattle.step_units.specs.Stepped.{StepLeads, LeadsFrom, StopsFrom}
 use Rattle.step_units.proofs.Entering.{leads_both, stops_then}

@@ -36,12 +36,12 @@ use Rattle.run_model.specs.Act.{act}
 use Rattle.run_model.specs.State.{State}
 use Rattle.run_model.specs.Wanted.{wanted, touched_next}
 use Rattle.run_model.proofs.Wanting.{wanted_none}
-use Rattle.run_laws.proofs.Flows.{runs_next}
-use Rattle.run_units.specs.Leads.{MadeAs}
-use Rattle.run_units.specs.Touching.{MakesNone, IsWhole, IsReadyFor}
-use Rattle.run_units.proofs.Instructing.{hit_ready, miss_wanted}
-use Rattle.run_units.proofs.Stepping.{step_known, ran_made, none_asked}
-use Rattle.run_units.proofs.Units.{none_leads}
+use Rattle.economy_laws.proofs.Flows.{runs_next}
+use Rattle.step_units.specs.Leads.{MadeAs}
+use Rattle.step_units.specs.Touching.{MakesNone, IsWhole, IsReadyFor}
+use Rattle.step_units.proofs.Instructing.{hit_ready, miss_wanted}
+use Rattle.step_units.proofs.Stepping.{step_known, ran_made, none_asked}
+use Rattle.step_units.proofs.Units.{none_leads}
 use Rattle.step_units.specs.Machines.{MakesCall}
 use Rattle.step_units.specs.Running.{WaitsForPage}
 use Rattle.step_units.specs.Stepped.{StepLeads, StopLeads, StopsBy}

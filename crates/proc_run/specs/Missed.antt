@@ -16,7 +16,7 @@ use Rattle.page_model.specs.Pages.{is_valid}
 use Rattle.page_model.specs.Placement.{Placement, state_of}
 use Rattle.kernel_model.specs.Kernel.{Kernel}
 use Rattle.machine_state.specs.UserMemory.{page_in, kernel_answers}
-use Rattle.fault_fill.specs.Growth.{space_of_pid}
+use Rattle.step_units.specs.Growth.{space_of_pid}
 
 -- the byte for which a computation missed
 abbrev pub missed_byte : {A : Type 0} → Result A Refused → Option ℕ

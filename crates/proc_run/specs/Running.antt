@@ -12,7 +12,7 @@ use Rattle.step_units.specs.Reading.{AreNamed}
 use Rattle.run_model.specs.declared.mark.Mark.TheVariants as marks
 use Rattle.run_model.specs.State.{State}
 use Rattle.run_model.specs.Next.{turn_instructions, under}
-use Rattle.run_units.specs.Leads.{Leads}
+use Rattle.step_units.specs.Leads.{Leads}
 use Rattle.step_units.specs.Machines.{MachineAt}
 use Rattle.step_units.specs.Lines.{IsClear}
 use Rattle.proc_run.specs.Runs.{IsSteady}

@@ -5,10 +5,10 @@ use Rattle.vm_facts.specs.declared.regs.Regs.{Regs}
 use Rattle.flat_state.specs.Space.{Space}
 use Rattle.flat_state.specs.Flat.{Process, Inputs}
 use Rattle.machine_state.specs.Machine.{Standing}
-use Rattle.call_reads.specs.Reading.{AreNamed}
+use Rattle.step_units.specs.Reading.{AreNamed}
 use Rattle.run_model.specs.State.{State}
-use Rattle.run_units.specs.Serving.{At}
-use Rattle.run_units.specs.Touching.{RunsInSpace}
+use Rattle.step_units.specs.Serving.{At}
+use Rattle.step_units.specs.Touching.{RunsInSpace}
 
 -- A machine with the images of a run stands at a state of it, at which a process runs, with these registers.
 pub record RunsWith (A : Inputs) (s : State) (now : Bool) (m : Standing) (pid : ℕ) (regs : Regs) : Type 0 where

@@ -26,6 +26,8 @@ pub use choosing::{can_step, next_turned, ready_regs};
 pub use finishing::{Begun, begun_step, begun_steps_are_told, finish_step, pid_of};
 pub use running::run;
 pub use seeking::{Touches, touched_and_wanted};
+pub use step_units;
+pub use step_units::run_units;
 pub use touched::Touched;
 pub use touching::touched_before;
 pub use user_step::DecodeCache;

@@ -7,15 +7,15 @@ ghost use Rattle.flat_state.specs.Space.{Space};
 ghost use Rattle.flat_model.specs.Calls.{reply_of, refusal_of};
 ghost use Rattle.machine_state.specs.Going.{CanGoOn};
 ghost use Rattle.machine_state.specs.UserMemory.{CanLend};
-ghost use Rattle.fault_fill.specs.Growth.{space_of_pid};
-ghost use Rattle.call_reads.specs.Reading.{AreNamed};
+ghost use Rattle.step_units.specs.Growth.{space_of_pid};
+ghost use Rattle.step_units.specs.Reading.{AreNamed};
 ghost use Rattle.proc_run.specs.Shown.{shown_in};
 
 use crate::shown::Shown;
-use call_reads::read_by_call;
 use flat_model::{Asked, SystemCall};
 use machine_state::Machine;
 use std::alloc::Global;
+use step_units::call_reads::read_by_call;
 use vm_facts::{NoMemory, Page, Regs};
 
 // What a call reads of a memory of which some pages alone are shown.

@@ -16,7 +16,7 @@ use Rattle.command_edge.proofs.Counting.{none_then, one_then}
 use Rattle.command_edge.proofs.Makings.{made_where, made_nothing}
 use Rattle.run_opening.specs.Schedules.{schedule_found, HasEvents, EndsSchedule}
 use Rattle.run_opening.specs.Opening.{CountsAt}
-use Rattle.replay_command.specs.Reading.{FaultsBy, images_told}
+use Rattle.reference_commands.specs.ReplayCommandReading.{FaultsBy, images_told}
 use Rattle.reference_commands.specs.declared.question.Question.{Question}
 use Rattle.reference_commands.specs.declared.question.Question.TheVariants as questions
 use Rattle.reference_commands.specs.Reading.{Read, read_told}

@@ -23,8 +23,8 @@ use Rattle.run_laws.proofs.Machines.{swaps_follow}
 use Rattle.reference_commands.specs.Machines.{journal_entries}
 use Rattle.film_core.specs.Films.{Filming, FilmAt, FilmBegun, OneMore, FilmGoes}
 use Rattle.film_core.proofs.Begins.{none_made}
-use Rattle.owner_lines.specs.First.{ComeFirst}
-use Rattle.owner_lines.proofs.First.{first_of_longer}
+use Rattle.run_stats.specs.First.{ComeFirst}
+use Rattle.run_stats.proofs.First.{first_of_longer}
 use Rattle.run_stats.specs.declared.look.Look.{Look}
 use Rattle.run_stats.specs.declared.noting.Note.{Note}
 use Rattle.run_stats.specs.Looks.{look_of, look_at}

@@ -14,7 +14,7 @@ use Rattle.flat_state.specs.Journal.{append}
 use Rattle.run_model.specs.State.{State}
 use Rattle.run_model.specs.Next.{next_unit}
 use Rattle.film_core.specs.Films.{Filming, FilmAt, IsFilming, FilmBegun, BeginsFilm, OneMore, FilmGoes}
-use Rattle.owner_lines.specs.Owners.{word_if, owners_lines}
+use Rattle.run_stats.specs.Owners.{word_if, owners_lines}
 use Rattle.command_words.specs.declared.command.FilmSteps.{FilmSteps}
 use Rattle.reference_commands.specs.Answering.{IsEnd, has_step, step_numbers, step_line, TellsStep, TellSteps, SaysFilm}
 use Rattle.question_command.specs.Filmed.{IsAskable, IsAtState, step_text, Filmed}

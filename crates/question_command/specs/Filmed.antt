@@ -9,7 +9,7 @@ use Rattle.machine_state.specs.Machine.{Standing}
 use Rattle.run_model.specs.State.{State}
 use Rattle.film_core.specs.RunEnds.{IsAskedOf}
 use Rattle.film_core.specs.Films.{Filming, FilmAt}
-use Rattle.owner_lines.specs.Owners.{owners_lines}
+use Rattle.run_stats.specs.Owners.{owners_lines}
 use Rattle.command_words.specs.declared.command.FilmSteps.{FilmSteps}
 use Rattle.reference_commands.specs.Answering.{step_numbers, step_line, TellSteps}
 

@@ -11,7 +11,7 @@ ghost use Rattle.machine_state.specs.Sourced.{AreNames};
 ghost use Rattle.machine_state.specs.Applying.{facts_named};
 ghost use Rattle.command_edge.specs.ImageWords.{IsShortName};
 ghost use Rattle.run_text.specs.Text.{line_of};
-ghost use Rattle.owner_lines.specs.Owners.{word_if};
+ghost use Rattle.run_stats.specs.Owners.{word_if};
 ghost use Rattle.replay_check.specs.Images.{AreImageFiles};
 ghost use Rattle.command_edge.specs.Ending.{ending_of};
 ghost use Rattle.command_words.specs.Command.{AreSteps};

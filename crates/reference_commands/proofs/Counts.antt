@@ -10,12 +10,12 @@ use Rattle.flat_model.specs.Run.{Point, flat_entry, flat_units, flat_run, start_
 use Rattle.flat_model.specs.Touched.{touched}
 use Rattle.flat_model.proofs.Folds.{run_more}
 use Rattle.run_model.proofs.After.{count_of_units}
-use Rattle.flat_laws.specs.Whole.{ImagesWhole}
-use Rattle.flat_laws.proofs.Few.{touched_few}
-use Rattle.flat_laws.proofs.Sized.{run_sized, sized_whole}
+use Rattle.run_laws.specs.Whole.{ImagesWhole}
+use Rattle.run_laws.proofs.Few.{touched_few}
+use Rattle.run_laws.proofs.Sized.{run_sized, sized_whole}
 use Rattle.replay_check.specs.Verdicts.{touched_by_unit, references_from, references_of}
 use Rattle.replay_check.proofs.Running.{units_one}
-use Rattle.replay_command.proofs.Texts.{start_runs}
+use Rattle.run_command.proofs.Texts.{start_runs}
 
 -- images that fit their pages are whole
 pub images_whole : (images : List NamedImage) → ImagesFit images → ImagesWhole images

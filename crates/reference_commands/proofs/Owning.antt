@@ -6,8 +6,8 @@ use Rattle.machine_state.specs.Machine.{Standing}
 use Rattle.run_model.specs.State.{State}
 use Rattle.run_laws.specs.Machine.{StandsAt}
 use Rattle.run_command.specs.Full.{RunFull, RunOver}
-use Rattle.owner_lines.specs.Owners.{owners_text, owners_lines}
-use Rattle.owner_lines.proofs.Registers.{machine_told}
+use Rattle.run_stats.specs.Owners.{owners_text, owners_lines}
+use Rattle.run_stats.proofs.Registers.{machine_told}
 use Rattle.reference_commands.specs.Answering.{blank_stores, SaysOwners}
 
 -- the lines of a machine that stands at a state, for which no pieces wait

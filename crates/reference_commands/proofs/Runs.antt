@@ -23,7 +23,7 @@ use Rattle.command_edge.specs.ImageWords.{IsShortName}
 use Rattle.reference_answers.specs.Grammar.{most_references}
 use Rattle.replay_check.specs.Images.{FlatFile, IsImageFile, images_of}
 use Rattle.replay_check.specs.Verdicts.{references_of, first_bad}
-use Rattle.replay_command.proofs.Fronts.{none_is_bad}
+use Rattle.run_command.proofs.Fronts.{none_is_bad}
 use Rattle.command_edge.specs.Named.{Why}
 use Rattle.command_words.specs.declared.command.Numbers.{Numbers}
 use Rattle.command_words.specs.declared.limits.TheConstants.{MOST_LIMIT, MOST_SHORT_LIMIT}

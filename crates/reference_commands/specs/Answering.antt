@@ -29,7 +29,7 @@ use Rattle.replay_check.specs.Verdicts.{references_of}
 use Rattle.reference_answers.specs.Texts.{curve_text, references_text}
 use Rattle.reference_answers.specs.Answers.{IsOptimumText}
 use Rattle.run_text.specs.Text.{line_of}
-use Rattle.owner_lines.specs.Owners.{owners_text}
+use Rattle.run_stats.specs.Owners.{owners_text}
 use Rattle.command_words.specs.declared.command.FilmSteps.{FilmSteps}
 use Rattle.reference_commands.specs.declared.question.Question.{Question}
 use Rattle.reference_commands.specs.declared.question.Question.TheVariants.{Optimum, Curve, Owners, Film, Stats, WasCut, References}

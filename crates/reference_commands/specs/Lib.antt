@@ -9,6 +9,7 @@ pub use Rattle.run_command.specs.Paired
 pub use Rattle.run_command.specs.Seen
 pub use Rattle.run_command.specs.Sight
 pub use Rattle.run_command.specs.Naming
+pub use Rattle.run_command.specs.Reading as ReplayCommandReading
 pub mod Reading
 pub mod Asking
 pub mod Answering

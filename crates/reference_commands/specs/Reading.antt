@@ -7,7 +7,7 @@ use Rattle.command_edge.specs.ImageWords.{image_names}
 use Rattle.replay_check.specs.Images.{FlatFile}
 use Rattle.command_edge.specs.Named.{Why}
 use Rattle.run_opening.specs.Schedules.{schedule_found, HasEvents}
-use Rattle.replay_command.specs.Reading.{images_told}
+use Rattle.run_command.specs.Reading.{images_told}
 
 -- the bytes of a schedule, and images with their files' bytes, which are read as those of a replay
 pub record Read : Type 0 where

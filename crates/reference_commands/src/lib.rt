@@ -13,4 +13,5 @@ pub use answering::{curve_over, optimum_over, references_over};
 pub use growing::GrowingText;
 pub use question::Question;
 pub use run_command;
+pub use run_command::replay_command;
 pub use running::{OpenedInMemory, lines_of, open_in_memory, run_owners};

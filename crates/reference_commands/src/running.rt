@@ -8,10 +8,10 @@ ghost use Rattle.replay_check.specs.Images.{AreImageFiles, AreNumbers, images_of
 ghost use Rattle.run_command.specs.Full.{RunFull, RunOver};
 ghost use Rattle.run_command.specs.RunEnds.{RunEnds};
 ghost use Rattle.command_words.specs.declared.limits.TheConstants.{MOST_LIMIT};
-ghost use Rattle.replay_command.specs.Reading.{items_of};
+ghost use Rattle.run_command.specs.Reading.{items_of};
 ghost use Rattle.command_edge.specs.Ending.{ending_of};
 ghost use Rattle.io_edge.specs.Octets.{AreOctetFiles};
-ghost use Rattle.owner_lines.specs.Owners.{owners_lines};
+ghost use Rattle.run_stats.specs.Owners.{owners_lines};
 ghost use Rattle.run_command.specs.Machines.{journal_entries};
 ghost use Rattle.reference_commands.specs.Answering.{blank_stores};
 ghost use Rattle.reference_commands.specs.InMemory.{file_of, inputs_with, AreOpened, IsRunnable, HasRun, StaysRunning, EndsRun, EndsAnswer, AllDiffer};
@@ -23,11 +23,11 @@ use command_edge::Fault;
 use command_words::{JOURNAL_ENTRIES, Numbers};
 use io_edge::{Files, Moved, SureFiles, SureSwap};
 use machine_state::Machine;
-use owner_lines::write_owners;
 use replay_check::{Flat, references};
 use run_command::core_up_to;
 use run_command::vm_core::{Core, Unfinished, run_schedule};
 use run_opening::{OpenedImage, open_images};
+use run_stats::owner_lines::write_owners;
 use std::alloc::Global;
 use vm_facts::{Entry, Event, NoMemory, Page, Stop};
 

@@ -21,14 +21,14 @@ use Rattle.run_laws.specs.Running.{CanRun}
 use Rattle.run_laws.proofs.Lawful.{follows_state}
 use Rattle.run_laws.proofs.LongerJournals.{goes_behind, behind_longer}
 use Rattle.run_laws.proofs.Wholes.{start_run}
-use Rattle.run_units.specs.Leads.{Leads}
-use Rattle.run_units.specs.Serving.{At}
-use Rattle.run_units.proofs.Journals.{leads_follow}
-use Rattle.run_units.proofs.Units.{leads_at}
+use Rattle.step_judge.specs.Leads.{Leads}
+use Rattle.step_judge.specs.Serving.{At}
+use Rattle.step_judge.proofs.Journals.{leads_follow}
+use Rattle.step_judge.proofs.Units.{leads_at}
 use Rattle.vm_core.specs.Reading.{AreNamed}
 use Rattle.vm_core.specs.Leading.{IsTold, machine_at_start, StartLeads, StartStops}
 use Rattle.vm_core.specs.Stepped.{StopsNext}
-use Rattle.paging_units.specs.Stops.{StaysPut}
+use Rattle.vm_core.specs.Stops.{StaysPut}
 use Rattle.vm_core.proofs.Led.{stands_at_start}
 use Rattle.vm_core.proofs.Journals.{same_left}
 use Rattle.paged_laws.proofs.Steady.{run_steady}

@@ -8,7 +8,7 @@ use Rattle.io_edge.specs.WithFiles.{with_files}
 use Rattle.machine_state.specs.Machine.{Standing}
 use Rattle.machine_state.proofs.Besides.{wrote_beside, in_beside, asks_beside}
 use Rattle.paged_model.specs.declared.reason.Reason.{Reason}
-use Rattle.move_judge.specs.Leaving.{WentOut, CameIn, JudgedOut, JudgedIn}
+use Rattle.step_judge.specs.Leaving.{WentOut, CameIn, JudgedOut, JudgedIn}
 
 module _ (old new : Standing) (pid : ℕ) (i j : Option SwapImage) (notes : FileNotes) where
   pub out_beside : (r : Result (Option Reason) NoMemory) → IfOk r (JudgedOut pid i j old new)

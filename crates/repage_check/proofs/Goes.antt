@@ -13,11 +13,11 @@ use Rattle.machine_state.specs.Going.{CanGoOn}
 use Rattle.machine_state.specs.Machine.{Standing}
 use Rattle.machine_state.specs.Settled.{IsSameBeside}
 use Rattle.page_laws.proofs.Moves.Stays.{move_stays}
-use Rattle.fault_fill.specs.Made.{ground, MakesUnit}
+use Rattle.vm_core.specs.Made.{ground, MakesUnit}
 use Rattle.paged_model.specs.declared.reason.Reason.{Reason}
-use Rattle.move_judge.specs.Judged.{Judged, JudgedThrough}
-use Rattle.move_judge.specs.Over.{JudgedOver}
-use Rattle.move_judge.specs.Leaving.{WentOut, CameIn, JudgedOut, JudgedIn}
+use Rattle.step_judge.specs.Judged.{Judged, JudgedThrough}
+use Rattle.step_judge.specs.Over.{JudgedOver}
+use Rattle.step_judge.specs.Leaving.{WentOut, CameIn, JudgedOut, JudgedIn}
 use Rattle.step_judge.specs.Told.{GoesOnWith}
 
 on_beside : (old new : Standing) → CanGoOn new → IsSameBeside old new → GoesOnWith old new

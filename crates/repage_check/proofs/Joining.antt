@@ -7,8 +7,8 @@ use Rattle.vm_facts.specs.declared.entry.Entry.{Entry}
 use Rattle.vm_facts.specs.declared.entry.Entry.TheVariants as entries
 use Rattle.flat_state.specs.Journal.{join_by, join, append_after, append_joined, append, appended, repeated, units_with}
 use Rattle.page_laws.specs.Spans.{moves}
-use Rattle.paging_units.specs.LastMoves.{last_moves}
-use Rattle.paging_units.proofs.LastMoves.{last_of, last_more}
+use Rattle.vm_core.specs.LastMoves.{last_moves}
+use Rattle.vm_core.proofs.LastMoves.{last_of, last_more}
 use Rattle.run_laws.proofs.LongerJournals.{joined_beyond}
 use Rattle.repage_check.specs.Moves.{moves_with}
 

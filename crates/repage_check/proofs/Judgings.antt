@@ -19,7 +19,7 @@ use Rattle.machine_state.specs.Machine.{Standing}
 use Rattle.run_model.specs.State.{State}
 use Rattle.run_model.specs.Wanted.{locked}
 use Rattle.run_laws.specs.Machine.{IsJournalEntry}
-use Rattle.fault_fill.specs.Made.{ground}
+use Rattle.vm_core.specs.Made.{ground}
 use Rattle.step_judge.specs.Leads.{KeepsLocked, MadeAs}
 use Rattle.step_judge.proofs.Swapping.{out_made, in_made, note_made}
 use Rattle.step_judge.proofs.Units.{one_made}
@@ -30,9 +30,9 @@ use Rattle.paged_model.specs.Leaving.{out_reason, in_reason}
 use Rattle.paged_model.specs.Steps.{begun, step_reason}
 use Rattle.paged_model.specs.Runs.{unit_reason}
 use Rattle.step_judge.specs.Rests.{begun_by}
-use Rattle.move_judge.specs.Judged.{Judged, JudgedThrough}
-use Rattle.move_judge.specs.Over.{JudgedOver}
-use Rattle.move_judge.specs.Leaving.{JudgedOut, JudgedIn}
+use Rattle.step_judge.specs.Judged.{Judged, JudgedThrough}
+use Rattle.step_judge.specs.Over.{JudgedOver}
+use Rattle.step_judge.specs.Leaving.{JudgedOut, JudgedIn}
 use Rattle.step_judge.specs.At.{JudgedAt}
 use Rattle.step_judge.specs.Told.{StepTold, GoesOnWith}
 use Rattle.repage_check.specs.declared.past.Past.{Past}

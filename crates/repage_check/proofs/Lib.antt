@@ -1,3 +1,4 @@
+pub use Rattle.vm_core.proofs.Ending
 pub mod Onward
 mod Passing
 pub mod Judgings

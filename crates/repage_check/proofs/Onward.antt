@@ -38,7 +38,7 @@ use Rattle.paged_laws.proofs.Acted.{Steps as StepsBy, steps, act_is}
 use Rattle.paged_laws.proofs.Awaiting.{unit_paged}
 use Rattle.paged_laws.proofs.Standings.{unit_stands}
 use Rattle.paged_laws.proofs.Virtual.{can_of}
-use Rattle.step_units.proofs.Turning.{moved_in}
+use Rattle.step_judge.proofs.Turning.{moved_in}
 use Rattle.step_judge.specs.Begun.{Begun}
 use Rattle.step_judge.specs.Choosing.{may_run}
 use Rattle.step_judge.specs.Rests.{begun_by}

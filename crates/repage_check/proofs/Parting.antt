@@ -30,7 +30,7 @@ use Rattle.paged_model.specs.Traces.{trace_line_reason, trace_line_after}
 use Rattle.paged_laws.specs.Paged.{IsPaged}
 use Rattle.paged_laws.proofs.PartSteps.{line_comes, part_stands_at}
 use Rattle.paged_laws.proofs.Traces.{line_paged}
-use Rattle.move_judge.specs.PartJudged.{JudgedPart}
+use Rattle.step_judge.specs.PartJudged.{JudgedPart}
 use Rattle.step_judge.specs.At.{JudgedAt}
 use Rattle.repage_check.specs.declared.past.Past.{Past}
 use Rattle.repage_check.specs.Past.{MarkIsIn, PastAt}

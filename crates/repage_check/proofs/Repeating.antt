@@ -10,7 +10,7 @@ use Rattle.flat_state.specs.Journal.{append, repeated}
 use Rattle.page_model.specs.Placement.{Placement}
 use Rattle.machine_state.specs.Going.{CanGoOn}
 use Rattle.machine_state.specs.Machine.{Standing}
-use Rattle.paging_units.specs.LastMoves.{last_moves}
+use Rattle.vm_core.specs.LastMoves.{last_moves}
 use Rattle.run_model.specs.State.{State}
 use Rattle.run_model.specs.After.{after}
 use Rattle.step_judge.specs.Told.{GoesOnWith}

@@ -25,9 +25,9 @@ use Rattle.paged_model.specs.declared.reason.Reason.{Reason}
 use Rattle.paged_model.specs.Moves.{hand_reason, done_reason}
 use Rattle.paged_model.specs.Leaving.{out_reason, in_reason}
 use Rattle.step_judge.specs.Begun.{Begun}
-use Rattle.move_judge.specs.Judged.{Judged, JudgedThrough}
-use Rattle.move_judge.specs.Over.{JudgedOver}
-use Rattle.move_judge.specs.Leaving.{JudgedOut, JudgedIn}
+use Rattle.step_judge.specs.Judged.{Judged, JudgedThrough}
+use Rattle.step_judge.specs.Over.{JudgedOver}
+use Rattle.step_judge.specs.Leaving.{JudgedOut, JudgedIn}
 use Rattle.step_judge.specs.At.{JudgedAt}
 use Rattle.step_judge.specs.Told.{StepTold, GoesOnWith}
 use Rattle.repage_check.specs.declared.past.Past.{Past}

@@ -5,7 +5,7 @@ use Rattle.vm_facts.specs.declared.entry.Entry.TheVariants as entries
 use Rattle.flat_state.specs.Journal.{appended}
 use Rattle.machine_state.specs.Going.{CanGoOn}
 use Rattle.machine_state.specs.Machine.{Standing}
-use Rattle.paging_units.specs.LastMoves.{last_moves}
+use Rattle.vm_core.specs.LastMoves.{last_moves}
 use Rattle.page_laws.specs.Spans.{moves}
 use Rattle.paged_model.specs.declared.line.Line.{Line}
 use Rattle.paged_model.specs.declared.line.Line.TheVariants as lines

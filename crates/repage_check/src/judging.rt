@@ -25,10 +25,10 @@ use crate::past::{Past, begun_reason};
 use crate::swapping::{judge_coming, judge_leaving};
 use io_edge::{Files, SwapDev};
 use machine_state::Machine;
-use move_judge::judge_hand;
 use paged_model::Reason;
 use std::alloc::Global;
 use step_judge::judge_step;
+use step_judge::move_judge::judge_hand;
 use step_judge::proc_run::DecodeCache;
 use vm_facts::{Entry, NoMemory, Page};
 

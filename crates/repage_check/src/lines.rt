@@ -8,7 +8,7 @@ ghost use Rattle.flat_state.specs.Flat.{Inputs};
 ghost use Rattle.flat_state.specs.Journal.{counted, repeated, units_with, IsUnit};
 ghost use Rattle.machine_state.specs.Outside.{Asks};
 ghost use Rattle.machine_state.specs.Going.{CanGoOn};
-ghost use Rattle.paging_units.specs.LastMoves.{last_moves};
+ghost use Rattle.vm_core.specs.LastMoves.{last_moves};
 ghost use Rattle.page_laws.specs.Spans.{moves};
 ghost use Rattle.vm_core.specs.Stepped.{AtSome, LeadsFrom};
 ghost use Rattle.run_model.specs.State.{State};
@@ -23,9 +23,9 @@ use crate::{Past, begun_reason, judge_move, judge_unit, locked_pages, past_next,
 use io_edge::{Files, SwapDev};
 use kernel_model::HandPart;
 use machine_state::Machine;
-use move_judge::judge_part;
 use paged_model::{Line, Reason};
 use std::alloc::Global;
+use step_judge::move_judge::judge_part;
 use step_judge::proc_run::DecodeCache;
 use vm_facts::{Entry, NoMemory, Page};
 

@@ -7,14 +7,16 @@ ghost use Rattle.kernel_model.specs.Coupled.{SameTables};
 ghost use Rattle.machine_state.specs.Outside.{Asks};
 ghost use Rattle.machine_state.specs.Going.{CanGoOn};
 ghost use Rattle.paged_model.specs.Moves.{done_reason};
-ghost use Rattle.move_judge.specs.Judged.{Judged, JudgedThrough};
+ghost use Rattle.step_judge.specs.Judged.{Judged, JudgedThrough};
 ghost use Rattle.step_judge.specs.Told.{GoesOnWith};
 ghost use Rattle.repage_check.specs.Units.{IsFill, fill_reason};
 
 use io_edge::{Files, SwapDev};
 use machine_state::Machine;
-use move_judge::{judge_copy, judge_done, judge_get, judge_put, judge_reclaim, judge_zero};
 use paged_model::Reason;
+use step_judge::move_judge::{
+    judge_copy, judge_done, judge_get, judge_put, judge_reclaim, judge_zero,
+};
 use vm_facts::{Entry, NoMemory, Stop};
 
 // What was judged, or want of memory.

@@ -10,8 +10,8 @@ ghost use Rattle.repage_check.specs.Units.{AreOwnersOf, IsTableOf, IsMarkNote, n
 
 use crate::past::Past;
 use machine_state::Machine;
-use move_judge::reasons::unless;
 use paged_model::Reason;
+use step_judge::move_judge::reasons::unless;
 use step_judge::stuck;
 use vm_core::owners_of;
 use vm_facts::{Entry, NoMemory};

@@ -8,14 +8,14 @@ ghost use Rattle.kernel_model.specs.UPage.{AreRegs};
 ghost use Rattle.kernel_model.specs.Unit.{proc_of};
 ghost use Rattle.machine_state.specs.Going.{CanGoOn};
 ghost use Rattle.paged_model.specs.Leaving.{out_reason, in_reason};
-ghost use Rattle.move_judge.specs.Leaving.{JudgedOut, JudgedIn};
+ghost use Rattle.step_judge.specs.Leaving.{JudgedOut, JudgedIn};
 ghost use Rattle.step_judge.specs.Told.{GoesOnWith};
 
 use crate::moving::or_memory;
 use io_edge::SwapDev;
 use machine_state::Machine;
-use move_judge::{judge_in, judge_out};
 use paged_model::Reason;
+use step_judge::move_judge::{judge_in, judge_out};
 use vm_facts::NoMemory;
 
 /// A process goes out.

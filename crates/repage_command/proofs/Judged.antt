@@ -24,7 +24,7 @@ use Rattle.repage_check.specs.Units.{StandsPast}
 use Rattle.repage_check.specs.At.{JudgedAt}
 use Rattle.command_edge.specs.declared.fault.Fault.{Fault}
 use Rattle.command_edge.specs.declared.fault.Fault.TheVariants as faults
-use Rattle.vm_core.proofs.Ending.{are_among}
+use Rattle.repage_check.proofs.Ending.{are_among}
 use Rattle.question_command.specs.Naming.{shown_as}
 use Rattle.repage_check.specs.declared.checking.Verdict.TheVariants.{Paged}
 use Rattle.repage_check.specs.Verdicts.{HasMisstep, IsJudged}

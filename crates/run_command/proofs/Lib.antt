@@ -1,5 +1,8 @@
 pub use Rattle.vm_core.proofs.Filing
 pub use Rattle.vm_core.proofs.Finishing
+pub use Rattle.replay_command.proofs.Texts
+pub use Rattle.replay_command.proofs.Fronts
+pub use Rattle.replay_command.proofs.Replays
 pub mod Openings
 pub mod Inputs
 pub mod Endings

@@ -4,6 +4,7 @@ pub use Rattle.vm_core.specs.Lawful
 pub use Rattle.vm_core.specs.Headline
 pub use Rattle.vm_core.specs.RunEnds
 pub use Rattle.vm_core.specs.declared.schedule.Unfinished
+pub use Rattle.replay_command.specs.Reading
 pub mod Asking
 pub mod Seen
 pub mod Outside

@@ -12,4 +12,5 @@ pub use command::{core_up_to, run_command};
 pub use loading::load_command;
 pub use naming::name_images;
 pub use paired::run_paired;
+pub use replay_command;
 pub use vm_core;

@@ -17,6 +17,15 @@ pub use Rattle.flat_laws.proofs.Registers
 pub use Rattle.flat_laws.proofs.Replying
 pub use Rattle.flat_laws.proofs.Runs
 pub use Rattle.flat_laws.proofs.Distinct
+pub use Rattle.flat_laws.proofs.Sole
+pub use Rattle.flat_laws.proofs.Children
+pub use Rattle.flat_laws.proofs.Steps as FlatLawsSteps
+pub use Rattle.flat_laws.proofs.Sized
+pub use Rattle.kernel_laws.proofs.Kept.Begins
+pub use Rattle.kernel_laws.proofs.Machine.Tables
+pub use Rattle.kernel_laws.proofs.Flat.Numbered
+pub use Rattle.flat_laws.proofs.Few
+pub use Rattle.flat_laws.proofs.Entries
 pub mod Allowed
 pub mod Paging
 pub mod Refusals

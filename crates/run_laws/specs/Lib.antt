@@ -1,6 +1,7 @@
 pub use Rattle.flat_laws.specs.Shown
 pub use Rattle.flat_laws.specs.Longwords
 pub use Rattle.flat_laws.specs.Whole
+pub use Rattle.flat_laws.specs.Visible
 pub mod Standing
 pub mod Flowing
 pub mod Running

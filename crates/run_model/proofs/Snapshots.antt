@@ -6,8 +6,8 @@ use Rattle.vm_facts.specs.declared.entry.Entry.{Entry}
 use Rattle.vm_facts.specs.declared.entry.Entry.TheVariants.{Event as Line, Turn, Ran, Out, Grew, Call, Refused, Sleeps, Ended, Zero, Get, Copy, Reclaim, Hands, Put, Done, SwapOut, SwapIn, Owners}
 use Rattle.swap_book.specs.Holdings.{Holdings}
 use Rattle.flat_state.specs.Flat.{Inputs}
-use Rattle.page_model.specs.Placement.{Transfer}
-use Rattle.page_model.specs.Swapper.{Choice, In as Inward, Out as Outward, Nothing, swap_choice}
+use Rattle.kernel_model.specs.Placement.{Transfer}
+use Rattle.kernel_model.specs.Swapper.{Choice, In as Inward, Out as Outward, Nothing, swap_choice}
 use Rattle.run_model.specs.declared.mark.Mark.{Mark}
 use Rattle.run_model.specs.declared.mark.Mark.TheVariants as marks
 use Rattle.run_model.specs.Snapshot.{Snapshot, start_snapshot, dispatched_by, snapshot_after}

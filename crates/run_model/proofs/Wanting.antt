@@ -3,8 +3,8 @@ use Rattle.std.proofs.Common.{◌≡◌, ℕ, Bool, true, false, List, [], ◌�
 use Rattle.std.proofs.lemmas.List.{append-nil}
 use Rattle.flat_state.specs.Flat.{Inputs, can_step}
 use Rattle.vm_facts.specs.declared.page.Page.{Page}
-use Rattle.page_model.specs.Pages.{is_valid}
-use Rattle.page_model.specs.Placement.{Placement, state_of}
+use Rattle.kernel_model.specs.Pages.{is_valid}
+use Rattle.kernel_model.specs.Placement.{Placement, state_of}
 use Rattle.run_model.specs.State.{State}
 use Rattle.run_model.specs.Wanted.{running, touched_next, AllValid, absent_by, first_absent, wanted_by, wanted, locked_by, locked, Splits}
 use Rattle.run_model.specs.Snapshot.{present_by, before_absent}

@@ -7,9 +7,9 @@ use Rattle.vm_facts.specs.declared.entry.Entry.TheVariants as entries
 use Rattle.swap_book.specs.Placing.{fits}
 use Rattle.flat_state.specs.declared.change.Change.{Change}
 use Rattle.flat_state.specs.declared.change.Change.TheVariants as changes
-use Rattle.page_model.specs.Placement.{Placement}
+use Rattle.kernel_model.specs.Placement.{Placement}
 use Rattle.flat_state.specs.Change.{is_borrower}
-use Rattle.page_model.specs.Swapper.{is_settled}
+use Rattle.kernel_model.specs.Swapper.{is_settled}
 use Rattle.flat_model.specs.Calls.{stack_pages_of}
 use Rattle.flat_model.specs.Step.{flat_step, data_pages_of}
 use Rattle.flat_model.specs.Run.{step_at, is_refused, process_of_entry, entry_of_step as next_of_step}

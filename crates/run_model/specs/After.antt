@@ -7,9 +7,9 @@ use Rattle.vm_facts.specs.declared.entry.Entry.{Entry}
 use Rattle.vm_facts.specs.declared.entry.Entry.TheVariants as entries
 use Rattle.swap_book.specs.Holdings.{Holdings}
 use Rattle.flat_state.specs.Journal.{append, units_of}
-use Rattle.page_model.specs.Placement.{Placement, Transfer}
-use Rattle.page_model.specs.Place.{place_step, facts_of}
-use Rattle.page_model.specs.Swapper.{Choice, In, Out, Nothing, swap_choice}
+use Rattle.kernel_model.specs.Placement.{Placement, Transfer}
+use Rattle.kernel_model.specs.Place.{place_step, facts_of}
+use Rattle.kernel_model.specs.Swapper.{Choice, In, Out, Nothing, swap_choice}
 use Rattle.run_model.specs.declared.mark.Mark.{Mark}
 use Rattle.run_model.specs.declared.mark.Mark.TheVariants as marks
 use Rattle.flat_model.specs.Step.{Step}

@@ -4,11 +4,11 @@ use Rattle.vm_facts.specs.declared.page.Page.{Page}
 use Rattle.vm_facts.specs.declared.entry.Entry.{Entry}
 use Rattle.vm_facts.specs.declared.entry.Entry.TheVariants as entries
 use Rattle.flat_state.specs.Flat.{Inputs, process_of}
-use Rattle.page_model.specs.Placement.{Due, Start, CopyOf}
-use Rattle.page_model.specs.Place.{space_of_process}
-use Rattle.page_model.specs.Hands.{wants_moves}
-use Rattle.page_model.specs.Serve.{serve_unit}
-use Rattle.page_model.specs.Swapper.{is_out, put_out_unit}
+use Rattle.kernel_model.specs.Placement.{Due, Start, CopyOf}
+use Rattle.kernel_model.specs.Place.{space_of_process}
+use Rattle.kernel_model.specs.Hands.{wants_moves}
+use Rattle.kernel_model.specs.Serve.{serve_unit}
+use Rattle.kernel_model.specs.Swapper.{is_out, put_out_unit}
 use Rattle.run_model.specs.declared.mark.Mark.{Mark}
 use Rattle.run_model.specs.declared.mark.Mark.TheVariants as marks
 use Rattle.run_model.specs.State.{State}

@@ -6,11 +6,11 @@ use Rattle.vm_facts.specs.declared.page.Page.{Page}
 use Rattle.vm_facts.specs.declared.entry.Entry.{Entry}
 use Rattle.vm_facts.specs.declared.entry.Entry.TheVariants as entries
 use Rattle.swap_book.specs.Holdings.{Holdings}
-use Rattle.page_model.specs.Placement.{Placement, Due, Start, CopyOf, parts_of}
-use Rattle.page_model.specs.Place.{space_of_process}
-use Rattle.page_model.specs.Hands.{hand_run, wants_moves}
-use Rattle.page_model.specs.Serve.{force_entry, is_full, serve_unit}
-use Rattle.page_model.specs.Swapper.{is_out, put_out_unit}
+use Rattle.kernel_model.specs.Placement.{Placement, Due, Start, CopyOf, parts_of}
+use Rattle.kernel_model.specs.Place.{space_of_process}
+use Rattle.kernel_model.specs.Hands.{hand_run, wants_moves}
+use Rattle.kernel_model.specs.Serve.{force_entry, is_full, serve_unit}
+use Rattle.kernel_model.specs.Swapper.{is_out, put_out_unit}
 use Rattle.run_model.specs.declared.mark.Mark.{Mark}
 use Rattle.run_model.specs.declared.mark.Mark.TheVariants as marks
 use Rattle.run_model.specs.State.{State}

@@ -10,9 +10,9 @@ use Rattle.swap_book.specs.Holdings.{Holdings}
 use Rattle.flat_state.specs.Flat.{Holding, Holds, Lends, Zombie, Process, FlatState, NamedImage, Inputs, image_numbered, process_of}
 use Rattle.flat_state.specs.Space.{address_in}
 use Rattle.flat_state.specs.Journal.{append}
-use Rattle.page_model.specs.Pages.{is_valid}
-use Rattle.page_model.specs.Placement.{Placement, Due, Start, CopyOf, Starting, start_placement, state_of}
-use Rattle.page_model.specs.Place.{place_entry, place_step, facts_of}
+use Rattle.kernel_model.specs.Pages.{is_valid}
+use Rattle.kernel_model.specs.Placement.{Placement, Due, Start, CopyOf, Starting, start_placement, state_of}
+use Rattle.kernel_model.specs.Place.{place_entry, place_step, facts_of}
 use Rattle.flat_model.specs.Step.{Step}
 use Rattle.flat_model.specs.Run.{Point, start_point, step_at, point_after}
 use Rattle.flat_model.specs.Touched.{page_tested, touched}

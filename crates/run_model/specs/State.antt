@@ -3,9 +3,9 @@ use Rattle.std.specs.Prelude.{ℕ, List, [], filter_map, Option, Some, None}
 use Rattle.flat_state.specs.Flat.{Holding, Holds, Lends, Zombie, Process, FlatState, Inputs}
 use Rattle.vm_facts.specs.declared.entry.Entry.{Entry}
 use Rattle.swap_book.specs.Holdings.{Holdings}
-use Rattle.page_model.specs.Placement.{Placement}
+use Rattle.kernel_model.specs.Placement.{Placement}
 use Rattle.flat_state.specs.Change.{is_borrower}
-use Rattle.page_model.specs.Swapper.{Runner}
+use Rattle.kernel_model.specs.Swapper.{Runner}
 use Rattle.run_model.specs.declared.mark.Mark.{Mark}
 use Rattle.run_model.specs.declared.mark.Mark.TheVariants as marks
 use Rattle.flat_model.specs.Run.{Point}

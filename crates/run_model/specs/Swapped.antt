@@ -8,10 +8,10 @@ use Rattle.vm_facts.specs.declared.entry.Entry.TheVariants as entries
 use Rattle.swap_book.specs.declared.Owner.TheVariants as owners
 use Rattle.swap_book.specs.Holdings.{block_in}
 use Rattle.flat_state.specs.Journal.{units_of}
-use Rattle.page_model.specs.Placement.{Transfer, Part, Errand, Writes, Reads, slots_of}
-use Rattle.page_model.specs.Place.{space_of_holding}
-use Rattle.page_model.specs.Ownership.{block_of}
-use Rattle.page_model.specs.Stored.{store_at}
+use Rattle.kernel_model.specs.Placement.{Transfer, Part, Errand, Writes, Reads, slots_of}
+use Rattle.kernel_model.specs.Place.{space_of_holding}
+use Rattle.kernel_model.specs.Ownership.{block_of}
+use Rattle.kernel_model.specs.Stored.{store_at}
 use Rattle.kernel_model.specs.UPage.{u_page}
 use Rattle.kernel_model.specs.Coupled.{memory_of}
 use Rattle.kernel_model.specs.Requests.{image_files, unit_asks}

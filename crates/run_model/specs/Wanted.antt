@@ -2,9 +2,9 @@
 use Rattle.std.specs.Prelude.{◌≡◌, ℕ, Bool, true, false, List, [], ◌∷◌, ◌++◌, Option, Some, None}
 use Rattle.flat_state.specs.Flat.{Inputs}
 use Rattle.vm_facts.specs.declared.page.Page.{Page}
-use Rattle.page_model.specs.Pages.{is_valid}
-use Rattle.page_model.specs.Placement.{Placement, Due, Start, CopyOf, state_of}
-use Rattle.page_model.specs.Conditions.{EachPage}
+use Rattle.kernel_model.specs.Pages.{is_valid}
+use Rattle.kernel_model.specs.Placement.{Placement, Due, Start, CopyOf, state_of}
+use Rattle.kernel_model.specs.Conditions.{EachPage}
 use Rattle.run_model.specs.declared.mark.Mark.{Mark}
 use Rattle.run_model.specs.declared.mark.Mark.TheVariants as marks
 use Rattle.run_model.specs.Snapshot.{touched_of, passed_over}

@@ -1,3 +1,5 @@
+pub use Rattle.owner_lines.proofs.Registers
+pub use Rattle.owner_lines.proofs.First
 pub mod Folds
 pub mod Lines
 pub mod Validity

@@ -1,3 +1,5 @@
+pub use Rattle.owner_lines.specs.Owners
+pub use Rattle.owner_lines.specs.First
 pub mod Looks
 pub mod Seen
 pub mod Notes

@@ -17,5 +17,6 @@ pub use heads::{Head, PagingHead, RunHead};
 pub use laws::{counts_agree, ends_are_looked_at};
 pub use look::{Flight, Look, look_over};
 pub use noting::{Note, What, note_entry};
+pub use owner_lines;
 pub use sums::{PagingSums, RunSums, Tally, WrittenSums};
 pub use texts::stats_text;

@@ -29,8 +29,8 @@ use Rattle.page_model.specs.Placement.{Placement, space_number, image_in, image_
 use Rattle.page_model.specs.Conditions.{EachPage}
 use Rattle.kernel_model.specs.Kernel.{Kernel}
 use Rattle.kernel_model.specs.Coupled.{Coupled, Fits, IsSized, image_text}
-use Rattle.machine_state.specs.UserMemory.{bytes_of, text_len, data_len, stack_len, spot_in, read_spot, may_write_spot, page_at_spot, page_in, kernel_answers}
-use Rattle.machine_state.proofs.FlatMemory.{memory_covers}
+use Rattle.fault_fill.specs.UserMemory.{bytes_of, text_len, data_len, stack_len, spot_in, read_spot, may_write_spot, page_at_spot, page_in, kernel_answers}
+use Rattle.fault_fill.proofs.FlatMemory.{memory_covers}
 use Rattle.flat_model.specs.declared.calls.Reply.{Reply}
 use Rattle.flat_model.specs.declared.calls.SystemCall.{SystemCall}
 use Rattle.flat_model.specs.Step.{reply_asked}

@@ -10,7 +10,7 @@ use Rattle.run_model.specs.State.{State, start}
 use Rattle.run_model.specs.Lawful.{Follows, IsLawful}
 use Rattle.run_model.specs.Swapped.{left_from, swap_left}
 use Rattle.run_model.proofs.After.{units_journal}
-use Rattle.run_laws.proofs.Sizing.{started_few}
+use Rattle.economy_laws.proofs.Sizing.{started_few}
 use Rattle.economy_laws.specs.Machine.{StandsAt}
 use Rattle.economy_laws.specs.RunLawsRunning.{CanRun}
 use Rattle.economy_laws.proofs.Lawful.{follows_state}

@@ -8,7 +8,7 @@ use Rattle.kernel_model.specs.Kernel.{Proc, life_of}
 use Rattle.kernel_model.specs.Coupled.{SameTables}
 use Rattle.kernel_model.specs.Sound.{Sound, has_life, lives_in, lives}
 use Rattle.kernel_model.specs.Start.{kept_of}
-use Rattle.kernel_laws.proofs.Flat.Lists.{found_is}
+use Rattle.economy_laws.proofs.Lists.{found_is}
 use Rattle.run_model.specs.State.{State}
 use Rattle.run_model.specs.After.{snapshot_of}
 use Rattle.economy_laws.specs.Standing.{Placed, machine_of}

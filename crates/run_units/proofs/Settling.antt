@@ -25,7 +25,7 @@ use Rattle.run_model.proofs.Wanting.{wanted_none, all_unwanted}
 use Rattle.economy_laws.specs.Machine.{unit_swap}
 use Rattle.economy_laws.proofs.Marks.{on_free}
 use Rattle.economy_laws.proofs.Flows.{on_steps, runs_next, spared}
-use Rattle.machine_state.specs.Settled.{EndsWhile}
+use Rattle.fault_fill.specs.Settled.{EndsWhile}
 use Rattle.fault_fill.specs.Made.{Ground}
 use Rattle.run_units.specs.Leads.{HasImages, MadeAs, Leads}
 use Rattle.run_units.specs.Serving.{SameBut, At}

@@ -31,7 +31,7 @@ use Rattle.kernel_model.specs.Unit.{has_lender, passing_change, proc_of}
 use Rattle.economy_laws.proofs.Borrowed.{borrows_is}
 use Rattle.economy_laws.proofs.Swaps.{found_at}
 use Rattle.economy_laws.proofs.Shapes.{Shaped, touch_shaped, sizes_kept, image_kept}
-use Rattle.machine_state.specs.UserMemory.{bytes_of, text_len, data_len, stack_len, spot_in, write_page, write_spot, write_in, writes_in}
+use Rattle.fault_fill.specs.UserMemory.{bytes_of, text_len, data_len, stack_len, spot_in, write_page, write_spot, write_in, writes_in}
 use Rattle.user_vax.specs.Program.{run}
 use Rattle.user_vax.specs.Effects.{Effect}
 use Rattle.user_vax.specs.declared.refused.Refused.{Refused}
@@ -51,9 +51,9 @@ use Rattle.economy_laws.specs.Machine.{place_in, frame_written as write_tested, 
 use Rattle.io_edge.specs.FileHolding.{NamedFile}
 use Rattle.aout_image.specs.declared.Image.{Image}
 use Rattle.aout_image.specs.Image.{Loaded, loaded}
-use Rattle.machine_state.specs.Sourced.{ImageNamed}
-use Rattle.machine_state.specs.Files.{AreLoaded, AreImages}
-use Rattle.machine_state.specs.Applying.{facts_named}
+use Rattle.fault_fill.specs.Sourced.{ImageNamed}
+use Rattle.fault_fill.specs.Files.{AreLoaded, AreImages}
+use Rattle.fault_fill.specs.Applying.{facts_named}
 use Rattle.fault_fill.specs.Made.{Ground}
 use Rattle.run_units.specs.Leads.{HasImages, MadeAs}
 use Rattle.run_units.specs.Serving.{At}

@@ -18,7 +18,7 @@ use Rattle.page_laws.proofs.Bytes.Others.{put_steady}
 use Rattle.kernel_model.specs.Kernel.{Kernel, Proc, out_step, in_step, note_step}
 use Rattle.kernel_model.specs.UPage.{AreRegs}
 use Rattle.kernel_model.specs.Unit.{proc_of}
-use Rattle.machine_state.specs.Swapping.{WritesU, AsksU, IsIn}
+use Rattle.fault_fill.specs.Swapping.{WritesU, AsksU, IsIn}
 use Rattle.flat_model.specs.Run.{Point}
 use Rattle.run_model.specs.declared.mark.Mark.{Mark}
 use Rattle.run_model.specs.declared.mark.Mark.TheVariants as marks

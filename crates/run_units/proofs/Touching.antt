@@ -26,7 +26,7 @@ use Rattle.page_model.specs.Pages.{SpacePages, is_valid, numbered, data_in, stac
 use Rattle.page_model.specs.Placement.{Placement, space_number, image_in, image_of, state_of}
 use Rattle.page_model.specs.Conditions.{EachPage}
 use Rattle.kernel_model.specs.Kernel.{Kernel}
-use Rattle.machine_state.specs.UserMemory.{bytes_of, text_len, data_len, stack_len, spot_in, page_at_spot, page_in, read_by_state, read_page, read_spot, may_write_by, may_write_spot, kernel_answers}
+use Rattle.fault_fill.specs.UserMemory.{bytes_of, text_len, data_len, stack_len, spot_in, page_at_spot, page_in, read_by_state, read_page, read_spot, may_write_by, may_write_spot, kernel_answers}
 use Rattle.flat_model.specs.Touched.{page_read, page_tested, page_of_access, distinct}
 use Rattle.run_model.specs.Wanted.{AllValid}
 use Rattle.economy_laws.proofs.Extending.{filter_both as filter_append}

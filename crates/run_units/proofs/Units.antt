@@ -8,7 +8,7 @@ use Rattle.vm_facts.specs.declared.page.Page.{Page}
 use Rattle.flat_state.specs.Flat.{Inputs}
 use Rattle.kernel_model.specs.Kernel.{Kernel, hand_step, plain_step}
 use Rattle.kernel_model.specs.Requests.{ImageFile, image_done}
-use Rattle.machine_state.specs.Sourced.{files_named}
+use Rattle.fault_fill.specs.Sourced.{files_named}
 use Rattle.run_model.specs.State.{State}
 use Rattle.run_model.specs.Wanted.{locked}
 use Rattle.run_model.specs.After.{after}

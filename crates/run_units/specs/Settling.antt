@@ -7,7 +7,7 @@ use Rattle.flat_state.specs.Flat.{FlatState, Inputs, can_step}
 use Rattle.page_model.specs.Placement.{Placement}
 use Rattle.page_model.specs.Swapper.{is_settled}
 use Rattle.kernel_model.specs.Kernel.{Kernel}
-use Rattle.machine_state.specs.Settled.{EndsWhile}
+use Rattle.fault_fill.specs.Settled.{EndsWhile}
 use Rattle.run_model.specs.State.{State}
 use Rattle.run_model.specs.Wanted.{wanted}
 use Rattle.run_model.specs.Kinds.{ProcessRuns}

@@ -15,8 +15,8 @@ use Rattle.kernel_model.specs.Kernel.{Kernel, Proc}
 use Rattle.kernel_model.specs.ChangeStep.{ran_by, change_step, pass_step}
 use Rattle.kernel_model.specs.Asks.{asked}
 use Rattle.kernel_model.specs.Unit.{has_lender, lender_among, passing_change, proc_of}
-use Rattle.machine_state.specs.Applying.{facts_named}
-use Rattle.machine_state.specs.UserMemory.{writes_in}
+use Rattle.fault_fill.specs.Applying.{facts_named}
+use Rattle.fault_fill.specs.UserMemory.{writes_in}
 use Rattle.fault_fill.specs.Made.{Ground}
 use Rattle.user_vax.specs.Effects.{Effect}
 use Rattle.user_vax.specs.declared.refused.Refused.{Refused}

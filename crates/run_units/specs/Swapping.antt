@@ -10,7 +10,7 @@ use Rattle.page_model.specs.Swapper.{put_out_unit}
 use Rattle.kernel_model.specs.Kernel.{Kernel, Proc, out_step, note_step}
 use Rattle.kernel_model.specs.UPage.{AreRegs}
 use Rattle.kernel_model.specs.Unit.{proc_of}
-use Rattle.machine_state.specs.Swapping.{WritesU, AsksU, IsIn}
+use Rattle.fault_fill.specs.Swapping.{WritesU, AsksU, IsIn}
 use Rattle.run_model.specs.declared.mark.Mark.TheVariants as marks
 use Rattle.run_model.specs.State.{State}
 use Rattle.run_model.specs.Next.{under, next_mark, next_unit, owners_entry, next_turned, last_turned}

@@ -14,7 +14,7 @@ use Rattle.flat_state.specs.Flat.{Holds, Process, Inputs, process_of}
 use Rattle.page_model.specs.Pages.{is_valid}
 use Rattle.page_model.specs.Placement.{state_of}
 use Rattle.kernel_model.specs.Kernel.{Kernel}
-use Rattle.machine_state.specs.UserMemory.{kernel_answers, page_in}
+use Rattle.fault_fill.specs.UserMemory.{kernel_answers, page_in}
 use Rattle.flat_model.specs.declared.calls.Reply.{Reply}
 use Rattle.flat_model.specs.declared.calls.SystemCall.{SystemCall}
 use Rattle.flat_model.specs.Calls.{call_of}

@@ -4,7 +4,7 @@ ghost use Rattle.vm_facts.specs.SwapImages.{SwapImage};
 ghost use Rattle.vm_facts.specs.declared.entry.Entry.{Entry};
 ghost use Rattle.flat_state.specs.Flat.{Inputs};
 ghost use Rattle.kernel_model.specs.Kernel.{Kernel};
-ghost use Rattle.machine_state.specs.Sourced.{files_named};
+ghost use Rattle.fault_fill.specs.Sourced.{files_named};
 ghost use Rattle.run_model.specs.State.{State};
 ghost use Rattle.fault_fill.specs.Made.{Ground, MadeBy, ImageBy};
 ghost use Rattle.run_units.specs.Leads.{HasImages, KeepsLocked, MadeAs, Leads};

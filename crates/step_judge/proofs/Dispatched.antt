@@ -14,9 +14,9 @@ use Rattle.run_model.specs.Wanted.{wanted_by, wanted}
 use Rattle.run_model.specs.Kinds.{ProcessRuns}
 use Rattle.run_laws.specs.Flowing.{Awaits, WaitsBy}
 use Rattle.run_laws.specs.Running.{IsRun}
-use Rattle.run_units.specs.Serving.{At}
-use Rattle.run_units.specs.Touching.{RunsInSpace}
-use Rattle.step_units.specs.Machines.{MachineAt}
+use Rattle.proc_run.specs.RunUnitsServing.{At}
+use Rattle.proc_run.specs.RunUnitsTouching.{RunsInSpace}
+use Rattle.proc_run.specs.Machines.{MachineAt}
 use Rattle.paged_model.specs.declared.reason.Reason.TheVariants as reasons
 use Rattle.paged_model.specs.Steps.{other_begun, away_by, page_away}
 use Rattle.paged_model.proofs.Reasoned.{unless_none}

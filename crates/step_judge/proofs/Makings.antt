@@ -16,8 +16,8 @@ use Rattle.kernel_model.specs.Requests.{ImageFile}
 use Rattle.machine_state.specs.Sourced.{files_named}
 use Rattle.machine_state.specs.Going.{CanGoOn, IsRunning}
 use Rattle.machine_state.specs.Machine.{Standing}
-use Rattle.step_units.specs.Sizes.{KeptAtStop}
-use Rattle.step_units.specs.Stops.{SpoilsBy}
+use Rattle.proc_run.specs.Sizes.{KeptAtStop}
+use Rattle.proc_run.specs.Stops.{SpoilsBy}
 use Rattle.run_model.specs.declared.mark.Mark.TheVariants as marks
 use Rattle.run_model.specs.State.{State}
 use Rattle.run_model.specs.Act.{act}
@@ -32,10 +32,10 @@ use Rattle.run_laws.proofs.Lawful.{follows_state}
 use Rattle.run_laws.proofs.LongerJournals.{joined_beyond, units_long}
 use Rattle.run_laws.proofs.Machines.{swaps_follow}
 use Rattle.economy_laws.proofs.Steps.{act_some}
-use Rattle.run_units.specs.Leads.{MadeAs, Leads}
-use Rattle.run_units.specs.Serving.{At}
-use Rattle.run_units.proofs.Units.{leads_at}
-use Rattle.step_units.specs.Stepped.{StepLeads, StopsNext, StopLeads, AtSome, LeadsFrom, StopsFrom}
+use Rattle.proc_run.specs.Leads.{MadeAs, Leads}
+use Rattle.proc_run.specs.RunUnitsServing.{At}
+use Rattle.proc_run.proofs.Units.{leads_at}
+use Rattle.proc_run.specs.Stepped.{StepLeads, StopsNext, StopLeads, AtSome, LeadsFrom, StopsFrom}
 use Rattle.paged_laws.specs.Paged.{under_dispatch}
 use Rattle.paged_laws.proofs.Virtual.{act_same}
 use Rattle.proc_run.specs.declared.finishing.Begun.{Begun}

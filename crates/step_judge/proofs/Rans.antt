@@ -30,12 +30,12 @@ use Rattle.run_model.specs.Wanted.{wanted}
 use Rattle.run_model.proofs.Acting.{next_flat}
 use Rattle.run_model.proofs.Wanting.{splits_wanted}
 use Rattle.run_laws.proofs.Flows.{Acted, Settles, Refuses, Steps, acted, steps_own}
-use Rattle.run_units.specs.Serving.{At}
-use Rattle.run_units.specs.Touching.{RunsInSpace, WantsPage}
-use Rattle.run_units.proofs.Instructing.{miss_wanted}
-use Rattle.run_units.proofs.Stepping.{step_known}
+use Rattle.proc_run.specs.RunUnitsServing.{At}
+use Rattle.proc_run.specs.RunUnitsTouching.{RunsInSpace, WantsPage}
+use Rattle.proc_run.proofs.Instructing.{miss_wanted}
+use Rattle.proc_run.proofs.Stepping.{step_known}
 use Rattle.proc_run.proofs.RunsTouching.{frames_cover}
-use Rattle.step_units.proofs.Begun.{whole_due}
+use Rattle.proc_run.proofs.Begun.{whole_due}
 use Rattle.paged_model.specs.Steps.{other_begun}
 use Rattle.paged_laws.proofs.Acted.{own_awaits}
 use Rattle.proc_run.specs.declared.finishing.Begun.{Begun}

@@ -26,19 +26,19 @@ use Rattle.kernel_model.specs.Unit.{proc_of}
 use Rattle.machine_state.specs.Going.{CanGoOn}
 use Rattle.machine_state.specs.Machine.{Standing}
 use Rattle.machine_state.specs.UserMemory.{CanLend, Wrote, writes_in}
-use Rattle.step_units.specs.Callers.{regs_of}
-use Rattle.step_units.specs.Growth.{space_of_pid}
-use Rattle.step_units.specs.LastMoves.{last_moves}
+use Rattle.proc_run.specs.Callers.{regs_of}
+use Rattle.proc_run.specs.Growth.{space_of_pid}
+use Rattle.proc_run.specs.LastMoves.{last_moves}
 use Rattle.run_model.specs.declared.mark.Mark.TheVariants as marks
 use Rattle.run_model.specs.State.{State}
 use Rattle.run_model.specs.Act.{act}
 use Rattle.run_model.specs.Wanted.{wanted}
 use Rattle.run_laws.specs.Standing.{Placed}
-use Rattle.run_units.specs.Leads.{MadeAs}
-use Rattle.run_units.specs.Touching.{RunsInSpace}
+use Rattle.proc_run.specs.Leads.{MadeAs}
+use Rattle.proc_run.specs.RunUnitsTouching.{RunsInSpace}
 use Rattle.proc_run.specs.Touching.{RunsWith}
-use Rattle.step_units.specs.Stepped.{AtSome, LeadsFrom}
-use Rattle.step_units.proofs.Tables.{regs_is, is_kept}
+use Rattle.proc_run.specs.Stepped.{AtSome, LeadsFrom}
+use Rattle.proc_run.proofs.Tables.{regs_is, is_kept}
 use Rattle.paged_model.specs.declared.reason.Reason.{Reason}
 use Rattle.paged_model.specs.declared.reason.Reason.TheVariants as reasons
 use Rattle.paged_model.specs.Reasons.{unless, or_reason}

@@ -9,9 +9,9 @@ use Rattle.vm_facts.specs.declared.stop.NoMemory.{NoMemory}
 use Rattle.flat_state.specs.Flat.{Inputs}
 use Rattle.kernel_model.specs.Kernel.{Kernel}
 use Rattle.run_model.specs.State.{State}
-use Rattle.run_units.specs.Leads.{MadeAs}
-use Rattle.step_units.specs.Rests.{is_done}
-use Rattle.step_units.specs.Stepped.{LeadsFrom}
+use Rattle.proc_run.specs.Leads.{MadeAs}
+use Rattle.proc_run.specs.StepUnitsRests.{is_done}
+use Rattle.proc_run.specs.Stepped.{LeadsFrom}
 use Rattle.paged_model.specs.declared.reason.Reason.{Reason}
 use Rattle.paged_model.specs.declared.reason.Reason.TheVariants as reasons
 use Rattle.paged_model.specs.Reasons.{unless}

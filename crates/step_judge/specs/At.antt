@@ -7,7 +7,7 @@ use Rattle.flat_state.specs.Flat.{Inputs, can_step}
 use Rattle.kernel_model.specs.Start.{ImagesFit}
 use Rattle.machine_state.specs.Files.{AreRunImages}
 use Rattle.machine_state.specs.Machine.{Standing}
-use Rattle.step_units.specs.Reading.{AreNamed}
+use Rattle.proc_run.specs.Reading.{AreNamed}
 use Rattle.run_model.specs.State.{State}
 use Rattle.run_model.specs.Wanted.{wanted}
 use Rattle.run_model.specs.Act.{act}

@@ -2,15 +2,19 @@ pub use Rattle.proc_run.specs.Choosing
 pub use Rattle.proc_run.specs.declared.finishing.Begun
 pub use Rattle.proc_run.specs.Rests
 pub use Rattle.proc_run.specs.Running
-pub use Rattle.step_units.specs.Rests as StepUnitsRests
-pub use Rattle.step_units.specs.Stepped
+pub use Rattle.proc_run.specs.StepUnitsRests
+pub use Rattle.proc_run.specs.Stepped
 pub use Rattle.proc_run.specs.Touching
-pub use Rattle.step_units.specs.LastMoves
-pub use Rattle.step_units.specs.Reading
-pub use Rattle.step_units.specs.Callers
-pub use Rattle.run_units.specs.Leads
-pub use Rattle.run_units.specs.Serving
-pub use Rattle.run_units.specs.Touching as RunUnitsTouching
-pub use Rattle.step_units.specs.Sizes
+pub use Rattle.proc_run.specs.LastMoves
+pub use Rattle.proc_run.specs.Reading
+pub use Rattle.proc_run.specs.Callers
+pub use Rattle.proc_run.specs.Leads
+pub use Rattle.proc_run.specs.RunUnitsServing as Serving
+pub use Rattle.proc_run.specs.RunUnitsTouching
+pub use Rattle.proc_run.specs.Sizes
+pub use Rattle.move_judge.specs.Judged
+pub use Rattle.move_judge.specs.Leaving
+pub use Rattle.move_judge.specs.Over
+pub use Rattle.move_judge.specs.PartJudged
 pub mod At
 pub mod Told

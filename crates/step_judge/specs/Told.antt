@@ -11,7 +11,7 @@ use Rattle.machine_state.specs.Going.{CanGoOn}
 use Rattle.machine_state.specs.Machine.{Standing}
 use Rattle.run_model.specs.State.{State}
 use Rattle.run_model.specs.Act.{act}
-use Rattle.run_units.specs.Leads.{MadeAs}
+use Rattle.proc_run.specs.Leads.{MadeAs}
 use Rattle.paged_model.specs.declared.reason.Reason.{Reason}
 use Rattle.paged_model.specs.declared.reason.Reason.TheVariants as reasons
 use Rattle.paged_model.specs.Reasons.{unless, or_reason}

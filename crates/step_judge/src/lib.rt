@@ -12,6 +12,7 @@ mod ready;
 mod stepping;
 mod telling;
 
+pub use move_judge;
 pub use proc_run;
 pub use ready::stuck;
 pub use stepping::judge_step;

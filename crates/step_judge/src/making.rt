@@ -3,7 +3,7 @@ ghost use Rattle.io_edge.specs.WithFiles.{stores};
 ghost use Rattle.std.specs.Prelude.{◌≡◌, ◌+◌, ◌<◌, length, Some, None, OnOk};
 ghost use Rattle.flat_state.specs.Journal.{instructions_of};
 ghost use Rattle.machine_state.specs.Outside.{IsBacked};
-ghost use Rattle.step_units.specs.Stepped.{AtSome, LeadsFrom};
+ghost use Rattle.proc_run.specs.Stepped.{AtSome, LeadsFrom};
 ghost use Rattle.proc_run.specs.Runs.{IsSteady};
 ghost use Rattle.step_judge.specs.At.{ActsAt};
 ghost use Rattle.step_judge.specs.Told.{ActMade, GoesOnWith};

@@ -2,7 +2,7 @@
 ghost use Rattle.std.specs.Prelude.{◌≡◌, ◌-◌, length, slice_get, Some, IfOk};
 ghost use Rattle.vm_facts.specs.declared.entry.Entry.{Entry as AnyEntry};
 ghost use Rattle.vm_facts.specs.declared.entry.Entry.TheVariants as entries;
-ghost use Rattle.step_units.specs.Rests.{is_done};
+ghost use Rattle.proc_run.specs.StepUnitsRests.{is_done};
 ghost use Rattle.paged_model.specs.declared.reason.Reason.TheVariants as reasons;
 ghost use Rattle.paged_model.specs.Reasons.{unless};
 ghost use Rattle.paged_model.specs.Steps.{is_same, other_act};

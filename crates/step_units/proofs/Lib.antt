@@ -3,6 +3,18 @@ pub use Rattle.proc_calls.proofs.CopiedPages
 pub use Rattle.proc_calls.proofs.Waits
 pub use Rattle.proc_calls.proofs.Stopping as ProcCallsStopping
 pub use Rattle.swapper.proofs.Numbers
+pub use Rattle.run_units.proofs.Calling
+pub use Rattle.run_units.proofs.Touching
+pub use Rattle.run_units.proofs.Instructing
+pub use Rattle.run_units.proofs.Units
+pub use Rattle.run_units.proofs.Stepping
+pub use Rattle.proc_calls.proofs.Images
+pub use Rattle.run_units.proofs.Accounts
+pub use Rattle.run_units.proofs.Stretches
+pub use Rattle.run_units.proofs.Journals as RunUnitsJournals
+pub use Rattle.swapper.proofs.PutUnits
+pub use Rattle.run_units.proofs.Swapping
+pub use Rattle.swapper.proofs.LastMoves
 pub mod CallersSeen
 pub mod Placements
 pub mod Journals

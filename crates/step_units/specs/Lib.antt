@@ -21,6 +21,16 @@ pub use Rattle.run_laws.specs.Running as RunLawsRunning
 pub use Rattle.run_units.specs.Filling as RunUnitsFilling
 pub use Rattle.run_units.specs.Leads
 pub use Rattle.run_units.specs.Serving
+pub use Rattle.run_units.specs.Touching
+pub use Rattle.run_units.specs.Accounts
+pub use Rattle.run_units.specs.Economy
+pub use Rattle.run_units.specs.Owners
+pub use Rattle.proc_calls.specs.Moved
+pub use Rattle.swapper.specs.Runners
+pub use Rattle.swapper.specs.Putting
+pub use Rattle.swapper.specs.declared.Turned
+pub use Rattle.swapper.specs.Turns
+pub use Rattle.swapper.specs.Made
 pub mod Seen
 pub mod Ready
 pub mod Sizes

@@ -22,5 +22,6 @@ pub use laws::{
 };
 pub use lines::{lines_are_made, lines_begin, longwords_stay, turns_begin};
 pub use proc_calls;
-pub use proc_calls::fault_fill;
+pub use proc_calls::{call_reads, fault_fill};
+pub use run_units;
 pub use swapper;

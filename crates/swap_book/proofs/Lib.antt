@@ -1,3 +1,5 @@
+pub use Rattle.swap_dmap.proofs.PieceLaws
+pub use Rattle.swap_dmap.proofs.ChunkLaws
 pub mod OwnerLaws
 pub mod HoldingLaws
 pub mod BookLaws

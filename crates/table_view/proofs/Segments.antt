@@ -2,7 +2,7 @@
 use Rattle.std.proofs.Common.{◌≡◌, ℕ, ◌==◌, Bool, true, false, [], None, slice_get, if◌then◌else◌, refl}
 use Rattle.vm_facts.specs.declared.page.Page.{Page}
 use Rattle.vm_facts.specs.declared.page.Page.TheVariants.{Data, Stack, Text}
-use Rattle.flat_state.specs.PageNames.{beside}
+use Rattle.page_model.specs.PageNames.{beside}
 use Rattle.space_map.specs.Space.{Places, place_in, segment_in}
 
 -- the place of another page of the segment

@@ -10,7 +10,7 @@ use Rattle.core_map.specs.declared.slot.Slot.TheVariants.{Free, Resident, Away}
 use Rattle.core_map.specs.Frames.{Frames}
 use Rattle.core_map.specs.Slots.{slot_at, is_resident, is_slot_dirty as marked_dirty}
 use Rattle.space_map.specs.Space.{Places, place_in}
-use Rattle.flat_state.specs.PageNames.{number_of}
+use Rattle.page_model.specs.PageNames.{number_of}
 use Rattle.page_model.specs.Pages.{Slot, Zeros, no_slot, data_in, stack_in, text_in, is_dirty_by}
 use Rattle.page_model.specs.Placement.{Placement, slots_of}
 use Rattle.table_view.specs.Shown.{state_shown, ShowsMark, MarkShown, IsSeatedIfValid}

@@ -7,7 +7,7 @@ use Rattle.proc_table.specs.declared.process.Proc.{Proc as Record}
 use Rattle.proc_table.specs.Records.{find, Lowest}
 use Rattle.kernel_model.specs.Kernel.{Proc}
 use Rattle.kernel_model.specs.Unit.{lends_life, has_lender, lender_among}
-use Rattle.kernel_tables.proofs.Listed.{lends_shown}
+use Rattle.machine_state.proofs.Listed.{lends_shown}
 use Rattle.machine_state.specs.Machine.{life_shown, proc_shown, proc_of_record, processes_of}
 use Rattle.machine_state.proofs.Records.{keeps_none, keeps_some, found_pid}
 use Rattle.machine_state.proofs.Kin.{true_false}

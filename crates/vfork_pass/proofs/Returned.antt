@@ -13,7 +13,7 @@ use Rattle.kernel_model.specs.Kernel.{Life, HoldsSpace, LendsSpace, Proc, Kernel
 use Rattle.kernel_model.specs.ChangeStep.{space_of_life, life_of_proc, pass_from, passed_life, pass_step}
 use Rattle.kernel_model.specs.Sound.{has_life, lives_in, lives as are_alive}
 use Rattle.kernel_model.specs.Unit.{lends_life, has_lender, lender_among}
-use Rattle.kernel_tables.proofs.Listed.{lends_shown}
+use Rattle.machine_state.proofs.Listed.{lends_shown}
 use Rattle.machine_state.specs.Alike.{lends_to_by, lends_to, AreRecords}
 use Rattle.machine_state.specs.Applying.{MayPass}
 use Rattle.machine_state.specs.Calls.{life_in}

@@ -9,14 +9,14 @@ use Rattle.kernel_model.specs.Kernel.{Kernel}
 use Rattle.machine_state.specs.Machine.{Standing}
 use Rattle.run_model.specs.State.{State}
 use Rattle.run_model.specs.Swapped.{left_from}
-use Rattle.run_units.specs.Leads.{Leads}
-use Rattle.run_units.specs.Serving.{At}
-use Rattle.step_units.specs.Stepped.{StopLeads}
-use Rattle.run_units.specs.Accounts.{Account}
-use Rattle.run_units.specs.Economy.{Economy}
-use Rattle.run_units.proofs.Accounts.{units_accounted}
-use Rattle.run_units.proofs.Stretches.{units_economical}
-use Rattle.run_units.proofs.Journals.{leads_follow, leads_told}
+use Rattle.proc_run.specs.Leads.{Leads}
+use Rattle.proc_run.specs.RunUnitsServing.{At}
+use Rattle.proc_run.specs.Stepped.{StopLeads}
+use Rattle.proc_run.specs.Accounts.{Account}
+use Rattle.proc_run.specs.Economy.{Economy}
+use Rattle.proc_run.proofs.Accounts.{units_accounted}
+use Rattle.proc_run.proofs.Stretches.{units_economical}
+use Rattle.proc_run.proofs.RunUnitsJournals.{leads_follow, leads_told}
 use Rattle.vm_core.specs.Accounts.{StopsAccounted}
 
 module _ (A : Inputs) (s t : State) (k l : Kernel) (image : SwapImage) (us : List Entry) (j : Option SwapImage) (at : At A s k image) (leads : Leads A s k image us t l j) where

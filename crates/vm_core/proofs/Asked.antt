@@ -17,23 +17,23 @@ use Rattle.machine_state.specs.Sourced.{files_named}
 use Rattle.machine_state.specs.Conditions.{HasStopped}
 use Rattle.machine_state.specs.Failing.{LosesFor}
 use Rattle.machine_state.specs.Done.{sources, IsDone, ImageAfter, StopsFor, SwapAfter, StopsEnding}
-use Rattle.swapper.specs.Stops.{StopsBefore, StopsWhile}
-use Rattle.run_units.specs.Moved.{Moved, moving_hands}
-use Rattle.swapper.specs.declared.Turned.{Turned}
-use Rattle.swapper.specs.Runners.{runners_of, choice_of}
-use Rattle.swapper.specs.Turns.{Turns, StopsTurning}
-use Rattle.step_units.proofs.Transfers.{done_continues}
-use Rattle.step_units.proofs.LinesContinue.{moves_continue, turn_continues}
-use Rattle.swapper.specs.LastMoves.{last_moves}
+use Rattle.proc_run.specs.Stops.{StopsBefore, StopsWhile}
+use Rattle.proc_run.specs.Moved.{Moved, moving_hands}
+use Rattle.proc_run.specs.Turned.{Turned}
+use Rattle.proc_run.specs.Runners.{runners_of, choice_of}
+use Rattle.proc_run.specs.Turns.{Turns, StopsTurning}
+use Rattle.proc_run.proofs.Transfers.{done_continues}
+use Rattle.proc_run.proofs.LinesContinue.{moves_continue, turn_continues}
+use Rattle.proc_run.specs.LastMoves.{last_moves}
 use Rattle.run_model.specs.State.{State}
 use Rattle.run_model.specs.After.{interrupt_mark}
 use Rattle.run_model.specs.Next.{owners_of, last_turned}
-use Rattle.run_units.specs.Leads.{Leads}
-use Rattle.run_units.proofs.Units.{none_leads}
-use Rattle.step_units.specs.Stepped.{StopLeads, LeadsFrom, StopsFrom}
-use Rattle.step_units.specs.Lines.{LineLeads}
-use Rattle.step_units.proofs.Asking.{interrupt_made, idle_ends, interrupt_stops, hands_made, hands_stop, audit_made, audit_stops}
-use Rattle.step_units.proofs.PuttingOut.{swapper_made, swapper_stops}
+use Rattle.proc_run.specs.Leads.{Leads}
+use Rattle.proc_run.proofs.Units.{none_leads}
+use Rattle.proc_run.specs.Stepped.{StopLeads, LeadsFrom, StopsFrom}
+use Rattle.proc_run.specs.Lines.{LineLeads}
+use Rattle.proc_run.proofs.Asking.{interrupt_made, idle_ends, interrupt_stops, hands_made, hands_stop, audit_made, audit_stops}
+use Rattle.proc_run.proofs.PuttingOut.{swapper_made, swapper_stops}
 use Rattle.proc_run.specs.Runs.{IsSteady}
 use Rattle.vm_core.specs.Steady.{StaysSteady}
 use Rattle.vm_core.specs.Lines.{LineAt}

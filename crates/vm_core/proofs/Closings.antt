@@ -16,15 +16,15 @@ use Rattle.run_model.specs.After.{after}
 use Rattle.run_model.specs.Next.{or_else, when, due_unit, under, turn_of, line_or_turn, next_mark, next_unit, next_turned, last_turned}
 use Rattle.run_model.specs.Lawful.{Follows}
 use Rattle.run_model.proofs.After.{after_count}
-use Rattle.run_laws.proofs.Lawful.{next_is_unit}
-use Rattle.run_laws.proofs.Machines.{swaps_follow}
+use Rattle.economy_laws.proofs.Lawful.{next_is_unit}
+use Rattle.economy_laws.proofs.Machines.{swaps_follow}
 use Rattle.economy_laws.proofs.Finishing.Wholes.{counts_one}
 use Rattle.economy_laws.specs.Stretch.{turns_of, counts, NoneCounts}
 use Rattle.economy_laws.proofs.Idle.{count_most, few_turns}
-use Rattle.run_units.specs.Leads.{Leads}
-use Rattle.run_units.proofs.Units.{none_leads, both_lead}
-use Rattle.step_units.specs.Lines.{IsOver, TurnDue}
-use Rattle.step_units.specs.Stepped.{LeadsFrom, StopsFrom}
+use Rattle.proc_run.specs.Leads.{Leads}
+use Rattle.proc_run.proofs.Units.{none_leads, both_lead}
+use Rattle.proc_run.specs.Lines.{IsOver, TurnDue}
+use Rattle.proc_run.specs.Stepped.{LeadsFrom, StopsFrom}
 use Rattle.proc_run.specs.Choosing.{turn_after as chosen_next}
 use Rattle.proc_run.proofs.Ready.{turned_same}
 use Rattle.vm_core.specs.Cores.{Underway, StandsIn, CoreAt}

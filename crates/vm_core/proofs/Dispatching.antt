@@ -7,10 +7,10 @@ use Rattle.vm_facts.specs.declared.stop.Stop.{Stop}
 use Rattle.io_edge.specs.FileHolding.{NamedFile}
 use Rattle.flat_state.specs.Flat.{Inputs}
 use Rattle.machine_state.specs.Machine.{Standing}
-use Rattle.step_units.specs.Stepped.{LeadsFrom, StopsFrom}
+use Rattle.proc_run.specs.Stepped.{LeadsFrom, StopsFrom}
 use Rattle.run_model.specs.State.{State}
 use Rattle.run_model.specs.Next.{turn_instructions, last_turned}
-use Rattle.step_units.proofs.Residing.{closing_stays_in}
+use Rattle.proc_run.proofs.Residing.{closing_stays_in}
 use Rattle.proc_run.specs.Running.{UnderMark, RunLeads}
 use Rattle.vm_core.specs.Cores.{AskedAt, LineDone}
 use Rattle.vm_core.specs.Closing.{TurnAt, ResidentTurn, TurnDone}

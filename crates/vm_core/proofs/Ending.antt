@@ -17,11 +17,11 @@ use Rattle.kernel_model.specs.Requests.{image_files}
 use Rattle.machine_state.specs.Machine.{Standing}
 use Rattle.machine_state.specs.Sourced.{ImageNamed, files_named}
 use Rattle.run_model.specs.State.{start}
-use Rattle.run_laws.specs.Running.{CanRun}
-use Rattle.run_units.specs.Leads.{Leads}
-use Rattle.run_units.proofs.Units.{both_lead}
-use Rattle.step_units.specs.Stepped.{StopLeads, LeadsFrom, StopsFrom}
-use Rattle.step_units.specs.Sizes.{KeptAtStop}
+use Rattle.economy_laws.specs.RunLawsRunning.{CanRun}
+use Rattle.proc_run.specs.Leads.{Leads}
+use Rattle.proc_run.proofs.Units.{both_lead}
+use Rattle.proc_run.specs.Stepped.{StopLeads, LeadsFrom, StopsFrom}
+use Rattle.proc_run.specs.Sizes.{KeptAtStop}
 use Rattle.vm_core.specs.FirstProcesses.{AreAmong, StartsFrom}
 use Rattle.vm_core.specs.Leading.{IsTold, machine_at_start}
 use Rattle.vm_core.specs.Cores.{Underway, StandsUnderway, InputsOf}

@@ -19,23 +19,23 @@ use Rattle.machine_state.specs.Calls.{due_and_parent}
 use Rattle.machine_state.specs.Files.{AreRunImages}
 use Rattle.machine_state.specs.Machine.{Standing}
 use Rattle.machine_state.specs.Sourced.{ImageNamed}
-use Rattle.step_units.specs.Copying.{IsCopyFirst, CopiesPage, StopsPage, OnceCopied}
-use Rattle.step_units.specs.Filling.{IsStartFirst, FillsStart, StopsFilling}
-use Rattle.swapper.specs.LastMoves.{last_moves}
-use Rattle.step_units.specs.Ready.{CountsOn, RunsDue, Continues}
-use Rattle.step_units.specs.Sizes.{KeptAtStop}
-use Rattle.step_units.proofs.LinesContinue.{fill_continues}
-use Rattle.step_units.proofs.Running.{runs_self, runs_both, continues}
-use Rattle.step_units.proofs.SpacesContinue.{page_counts}
-use Rattle.step_units.proofs.StopsKeep.{kept_through, filling_same, page_same}
+use Rattle.proc_run.specs.Copying.{IsCopyFirst, CopiesPage, StopsPage, OnceCopied}
+use Rattle.proc_run.specs.Filling.{IsStartFirst, FillsStart, StopsFilling}
+use Rattle.proc_run.specs.LastMoves.{last_moves}
+use Rattle.proc_run.specs.Ready.{CountsOn, RunsDue, Continues}
+use Rattle.proc_run.specs.Sizes.{KeptAtStop}
+use Rattle.proc_run.proofs.LinesContinue.{fill_continues}
+use Rattle.proc_run.proofs.Running.{runs_self, runs_both, continues}
+use Rattle.proc_run.proofs.SpacesContinue.{page_counts}
+use Rattle.proc_run.proofs.StopsKeep.{kept_through, filling_same, page_same}
 use Rattle.run_model.specs.State.{State}
-use Rattle.step_units.specs.RunUnitsFilling.{FillsFirst}
-use Rattle.step_units.specs.Machines.{MachineAt}
-use Rattle.step_units.specs.Stepped.{StopLeads, LeadsFrom, StopsFrom}
-use Rattle.step_units.proofs.Copying.{page_copied, page_stops}
-use Rattle.step_units.proofs.Entering.{stops_then}
-use Rattle.step_units.proofs.Filling.{LeadsTo, stays, goes_on, forced_fill, filling_stops}
-use Rattle.step_units.proofs.Leading.{led_told, led_at}
+use Rattle.proc_run.specs.RunUnitsFilling.{FillsFirst}
+use Rattle.proc_run.specs.Machines.{MachineAt}
+use Rattle.proc_run.specs.Stepped.{StopLeads, LeadsFrom, StopsFrom}
+use Rattle.proc_run.proofs.Copying.{page_copied, page_stops}
+use Rattle.proc_run.proofs.Entering.{stops_then}
+use Rattle.proc_run.proofs.Filling.{LeadsTo, stays, goes_on, forced_fill, filling_stops}
+use Rattle.proc_run.proofs.Leading.{led_told, led_at}
 use Rattle.vm_core.specs.Filling.{due_of, IsDueFirst, FillsDue, StopsDue}
 use Rattle.vm_core.specs.Leading.{ToldAt, FillsLead}
 

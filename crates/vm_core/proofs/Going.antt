@@ -13,10 +13,10 @@ use Rattle.flat_state.specs.Flat.{Inputs}
 use Rattle.page_model.specs.Placement.{Due}
 use Rattle.run_model.specs.State.{State}
 use Rattle.run_model.specs.Next.{due_unit, or_else, under, when, line_or_turn, next_mark, next_unit}
-use Rattle.run_units.specs.Leads.{Leads}
-use Rattle.run_units.proofs.Units.{none_leads, both_lead}
-use Rattle.step_units.specs.Lines.{IsOver}
-use Rattle.step_units.specs.Stepped.{LeadsFrom, StopsFrom}
+use Rattle.proc_run.specs.Leads.{Leads}
+use Rattle.proc_run.proofs.Units.{none_leads, both_lead}
+use Rattle.proc_run.specs.Lines.{IsOver}
+use Rattle.proc_run.specs.Stepped.{LeadsFrom, StopsFrom}
 use Rattle.vm_core.specs.declared.events.Went.{Went}
 use Rattle.vm_core.specs.declared.events.Went.TheVariants as wents
 use Rattle.vm_core.specs.Cores.{Underway, LineDue, LineTaken, LineDueAt}

@@ -10,11 +10,11 @@ use Rattle.run_model.specs.State.{State, start}
 use Rattle.run_model.specs.After.{snapshot_of, after, state_after}
 use Rattle.run_model.specs.Lawful.{IsLawful}
 use Rattle.run_model.proofs.Snapshots.{after_snapshot}
-use Rattle.run_laws.specs.Running.{CanRun, IsIdle}
-use Rattle.run_laws.proofs.Lawful.{all_units, follows_state}
-use Rattle.run_laws.proofs.Finishing.{units_below}
-use Rattle.run_units.specs.Owners.{IsOwned}
-use Rattle.run_units.specs.Accounts.{AtEach, IsAccounted, Account}
+use Rattle.economy_laws.specs.RunLawsRunning.{CanRun, IsIdle}
+use Rattle.economy_laws.proofs.Lawful.{all_units, follows_state}
+use Rattle.economy_laws.proofs.RunLawsFinishing.{units_below}
+use Rattle.proc_run.specs.Owners.{IsOwned}
+use Rattle.proc_run.specs.Accounts.{AtEach, IsAccounted, Account}
 use Rattle.vm_core.specs.Lawful.{IsJournalOf, RunFinished}
 use Rattle.vm_core.specs.Headline.{KeepsOwners, KeepsTurns, snapshot_behind, last_snapshot, Headline, RunIsOver, HeadlineOver}
 

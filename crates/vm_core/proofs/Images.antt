@@ -10,7 +10,7 @@ use Rattle.page_model.specs.Placement.{image_number, new_text, unfilled, texts_f
 use Rattle.page_laws.proofs.Lists.Pages.{numbered_hit, numbered_miss}
 use Rattle.machine_state.specs.Applying.{facts_named}
 use Rattle.machine_state.specs.Sourced.{ImageNamed, named_at}
-use Rattle.step_units.specs.Reading.{AreNamed}
+use Rattle.proc_run.specs.Reading.{AreNamed}
 
 -- an image of these names and headers
 pub record IsImage (images : List NamedImage) (number : ℕ) (there : ImageNamed) : Type 0 where

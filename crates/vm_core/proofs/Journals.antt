@@ -22,24 +22,24 @@ use Rattle.machine_state.specs.Done.{SpoilsAll, SpoilsFirst as SpoilsTransfers, 
 use Rattle.machine_state.specs.Sourced.{files_named}
 use Rattle.machine_state.specs.Machine.{Standing}
 use Rattle.machine_state.specs.Failing.{LosesOldest}
-use Rattle.swapper.specs.Stops.{CauseBy, SpoilsBy, StaysPut, StaysStarved, StaysReturned, StoppedByFault, LeftBy}
+use Rattle.proc_run.specs.Stops.{CauseBy, SpoilsBy, StaysPut, StaysStarved, StaysReturned, StoppedByFault, LeftBy}
 use Rattle.run_model.specs.State.{State, start}
 use Rattle.run_model.specs.After.{after}
 use Rattle.run_model.specs.Next.{next_unit}
 use Rattle.run_model.specs.Lawful.{Follows, IsLawful}
 use Rattle.run_model.specs.Swapped.{swap_left}
-use Rattle.run_laws.specs.Machine.{StandsAt, MakesSwap, unit_step, unit_swap}
-use Rattle.run_laws.specs.Images.{AreFlat, WritesFlat, AllFlat as InFlightFlat}
-use Rattle.run_laws.specs.Running.{CanRun}
-use Rattle.run_laws.proofs.Finishing.{finished_ends}
-use Rattle.run_laws.proofs.Going.{unit_goes}
-use Rattle.run_laws.proofs.Machines.{start_keeps, swaps_keep}
-use Rattle.run_laws.proofs.SwapImages.{writes_flat}
-use Rattle.run_laws.proofs.Wholes.{start_run}
-use Rattle.run_units.specs.Leads.{Leads}
+use Rattle.economy_laws.specs.Machine.{StandsAt, MakesSwap, unit_step, unit_swap}
+use Rattle.economy_laws.specs.Images.{AreFlat, WritesFlat, AllFlat as InFlightFlat}
+use Rattle.economy_laws.specs.RunLawsRunning.{CanRun}
+use Rattle.economy_laws.proofs.RunLawsFinishing.{finished_ends}
+use Rattle.economy_laws.proofs.Going.{unit_goes}
+use Rattle.economy_laws.proofs.Machines.{start_keeps, swaps_keep}
+use Rattle.economy_laws.proofs.SwapImages.{writes_flat}
+use Rattle.economy_laws.proofs.Wholes.{start_run}
+use Rattle.proc_run.specs.Leads.{Leads}
 use Rattle.vm_core.specs.Leading.{machine_at_start}
-use Rattle.step_units.specs.Stepped.{StopLeads, StopsNext}
-use Rattle.run_units.proofs.Journals.{leads_follow, journal_lawful, journal_accounted, journal_economical, journal_image}
+use Rattle.proc_run.specs.Stepped.{StopLeads, StopsNext}
+use Rattle.proc_run.proofs.RunUnitsJournals.{leads_follow, journal_lawful, journal_accounted, journal_economical, journal_image}
 use Rattle.vm_core.specs.Cores.{Underway, StandsUnderway}
 use Rattle.vm_core.specs.Halting.{HaltsFor, SpoilsParts, SpoilsOldest, AsksParts, AsksErrand, AsksOldest, LeavesImage}
 use Rattle.vm_core.specs.Lawful.{IsJournalOf, RunFinished, RunHalted, RunStarved}

@@ -8,14 +8,14 @@ use Rattle.vm_facts.specs.declared.stop.Stop.TheVariants as stops
 use Rattle.io_edge.specs.FileHolding.{NamedFile}
 use Rattle.machine_state.specs.Machine.{Standing}
 use Rattle.machine_state.specs.Conditions.{HasStopped}
-use Rattle.swapper.specs.Stops.{StopsWhile}
-use Rattle.run_units.specs.Moved.{moving_hands}
-use Rattle.step_units.specs.Sizes.{KeptAtStop}
-use Rattle.swapper.specs.declared.Turned.TheVariants as turns
-use Rattle.swapper.specs.declared.Turned.{Turned}
-use Rattle.swapper.specs.Putting.{putting_out}
-use Rattle.swapper.specs.Turns.{StopsTurning}
-use Rattle.step_units.proofs.StopsKeep.{kept_here, kept_at, kept_while}
+use Rattle.proc_run.specs.Stops.{StopsWhile}
+use Rattle.proc_run.specs.Moved.{moving_hands}
+use Rattle.proc_run.specs.Sizes.{KeptAtStop}
+use Rattle.proc_run.specs.Turned.TheVariants as turns
+use Rattle.proc_run.specs.Turned.{Turned}
+use Rattle.proc_run.specs.Putting.{putting_out}
+use Rattle.proc_run.specs.Turns.{StopsTurning}
+use Rattle.proc_run.proofs.StopsKeep.{kept_here, kept_at, kept_while}
 
 -- the end of the oldest transfer
 pub kept_ending : (old new : Standing) (stop : Stop) → HasStopped old new

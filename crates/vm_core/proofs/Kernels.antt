@@ -9,16 +9,16 @@ use Rattle.page_model.specs.Place.{facts_of}
 use Rattle.page_model.specs.Placement.{Starting}
 use Rattle.kernel_model.specs.Kernel.{Kernel}
 use Rattle.kernel_model.specs.Start.{start_kernel, begin_step, with_first, starting_in}
-use Rattle.kernel_laws.proofs.Kept.Begins.{start_none, start_begins}
+use Rattle.economy_laws.proofs.Begins.{start_none, start_begins}
 use Rattle.machine_state.specs.New.{fresh_kernel}
 use Rattle.machine_state.specs.Applying.{facts_named}
 use Rattle.machine_state.specs.Beginning.{StartedFirst}
 use Rattle.machine_state.specs.Machine.{Standing}
 use Rattle.machine_state.specs.Sourced.{ImageNamed}
-use Rattle.step_units.specs.Reading.{AreNamed}
+use Rattle.proc_run.specs.Reading.{AreNamed}
 use Rattle.run_model.specs.Snapshot.{starting_as, starting}
-use Rattle.run_laws.specs.Running.{FirstThere}
-use Rattle.run_laws.proofs.Beginning.{are_starting}
+use Rattle.economy_laws.specs.RunLawsRunning.{FirstThere}
+use Rattle.economy_laws.proofs.RunLawsBeginning.{are_starting}
 use Rattle.vm_core.specs.FirstProcesses.{IsNew, StartsFrom}
 use Rattle.vm_core.specs.Beginning.{BeginsAll}
 use Rattle.vm_core.specs.Leading.{machine_at_start}

@@ -13,15 +13,15 @@ use Rattle.kernel_model.specs.Kernel.{Kernel}
 use Rattle.machine_state.specs.Files.{AreRunImages}
 use Rattle.machine_state.specs.Machine.{Standing}
 use Rattle.machine_state.specs.Sourced.{ImageNamed}
-use Rattle.step_units.specs.Sizes.{SameSizes}
+use Rattle.proc_run.specs.Sizes.{SameSizes}
 use Rattle.run_model.specs.State.{start}
-use Rattle.run_laws.specs.Running.{CanRun}
-use Rattle.run_laws.proofs.Beginning.{run_start}
-use Rattle.run_laws.proofs.Machines.{start_keeps}
-use Rattle.step_units.specs.Leads.{Leads}
-use Rattle.step_units.specs.Machines.{MachineAt}
-use Rattle.step_units.specs.Serving.{At}
-use Rattle.step_units.specs.Stepped.{StopLeads, LeadsFrom, StopsFrom}
+use Rattle.economy_laws.specs.RunLawsRunning.{CanRun}
+use Rattle.economy_laws.proofs.RunLawsBeginning.{run_start}
+use Rattle.economy_laws.proofs.Machines.{start_keeps}
+use Rattle.proc_run.specs.Leads.{Leads}
+use Rattle.proc_run.specs.Machines.{MachineAt}
+use Rattle.proc_run.specs.RunUnitsServing.{At}
+use Rattle.proc_run.specs.Stepped.{StopLeads, LeadsFrom, StopsFrom}
 use Rattle.vm_core.specs.FirstProcesses.{IsNew}
 use Rattle.vm_core.specs.Beginning.{BeginsAll, Begins}
 use Rattle.vm_core.specs.declared.first_processes.Started.{Started}

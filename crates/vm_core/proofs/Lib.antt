@@ -1,10 +1,24 @@
-pub use Rattle.run_laws.proofs.Images as FlatLawsImages
-pub use Rattle.run_laws.proofs.Octets
-pub use Rattle.run_laws.proofs.Filing
-pub use Rattle.run_laws.proofs.Finishing
+pub use Rattle.economy_laws.proofs.Images as FlatLawsImages
+pub use Rattle.economy_laws.proofs.Octets
+pub use Rattle.economy_laws.proofs.Filing
+pub use Rattle.economy_laws.proofs.RunLawsFinishing as Finishing
 pub use Rattle.proc_run.proofs.Ready
 pub use Rattle.proc_run.proofs.Marks
 pub use Rattle.proc_run.proofs.BegunTold
+pub use Rattle.proc_run.proofs.Choosing
+pub use Rattle.proc_run.proofs.StepUnitsBeginning as Beginning
+pub use Rattle.proc_run.proofs.Turning
+pub use Rattle.proc_run.proofs.LinesContinue
+pub use Rattle.proc_run.proofs.Asking
+pub use Rattle.proc_run.proofs.Finding
+pub use Rattle.proc_run.proofs.PuttingOut
+pub use Rattle.proc_run.proofs.Stopping
+pub use Rattle.proc_run.proofs.StopsKeep
+pub use Rattle.proc_run.proofs.PutUnits
+pub use Rattle.proc_run.proofs.Swapping
+pub use Rattle.proc_run.proofs.RunUnitsJournals
+pub use Rattle.proc_run.proofs.Units
+pub use Rattle.proc_run.proofs.LastMoves
 pub mod Images
 pub mod Placing
 pub mod Filled

@@ -7,7 +7,7 @@ use Rattle.vm_facts.specs.declared.stop.Stop.{Stop}
 use Rattle.vm_facts.specs.declared.stop.Stop.TheVariants as stops
 use Rattle.machine_state.specs.Machine.{Standing}
 use Rattle.machine_state.specs.Performing.{IsAtBound, StopsForRoom}
-use Rattle.swapper.specs.Stops.{StopsBefore}
+use Rattle.proc_run.specs.Stops.{StopsBefore}
 
 -- what is so of the stop of a call is so of one that ends with it
 pub stops_on : {T : Type 0} (r : Result T Stop) (stop : Stop) (Q : Stop → Type 0) → IsErrAnd r (λ y. y ≡ stop) → Q stop → IfErr r Q

@@ -14,17 +14,17 @@ use Rattle.page_model.specs.Swapper.{is_out}
 use Rattle.kernel_model.specs.Kernel.{Kernel, New, HoldsSpace, Proc, life_of}
 use Rattle.kernel_model.specs.ChangeStep.{life_of_proc}
 use Rattle.kernel_model.specs.Coupled.{Outline, SameTables}
-use Rattle.kernel_laws.proofs.Machine.Swaps.{found_at}
-use Rattle.kernel_laws.proofs.Machine.Tables.{kept_at, outline_at}
+use Rattle.economy_laws.proofs.Swaps.{found_at}
+use Rattle.economy_laws.proofs.Tables.{kept_at, outline_at}
 use Rattle.machine_state.specs.Alike.{AreRecords}
 use Rattle.machine_state.specs.Calls.{life_in}
 use Rattle.machine_state.specs.Machine.{Standing, life_shown, proc_of_record as shown_of, processes_of, residents_of}
 use Rattle.machine_state.proofs.Listed.{process_is}
 use Rattle.machine_state.proofs.Records.{found_pid}
-use Rattle.run_laws.proofs.Acts.{Stepper, stepper}
+use Rattle.economy_laws.proofs.Acts.{Stepper, stepper}
 use Rattle.run_model.specs.State.{State}
 use Rattle.run_model.specs.Next.{turn_instructions}
-use Rattle.swapper.proofs.Numbers.{placed}
+use Rattle.proc_run.proofs.Numbers.{placed}
 use Rattle.vm_core.specs.Closing.{TurnAt}
 
 module _ (k : Kernel) (ps : List Record) (pid : ℕ) (procs : k.processes ≡ processes_of ps k.next_pid) (residents : k.place.residents ≡ residents_of ps k.next_pid)

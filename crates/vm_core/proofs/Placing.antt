@@ -11,7 +11,7 @@ use Rattle.swap_book.specs.Holdings.{Holdings}
 use Rattle.swap_book.specs.Placing.{Wanted, wanted, place_all}
 use Rattle.flat_state.specs.Flat.{NamedImage, Inputs}
 use Rattle.flat_model.specs.Asked.{text_wanted, image_wanted, pieces_for, contains, first_then, first_wanted, first_held, start_held}
-use Rattle.run_laws.proofs.FlatLawsAsking.{text_same}
+use Rattle.economy_laws.proofs.FlatLawsAsking.{text_same}
 use Rattle.page_model.specs.Pages.{SpacePages}
 use Rattle.page_model.specs.Placement.{slots_of, sharers, sharers_in, new_pages}
 use Rattle.kernel_model.specs.Asks.{text_asked, begin_asks}
@@ -19,7 +19,7 @@ use Rattle.kernel_model.specs.Kernel.{Kernel}
 use Rattle.machine_state.specs.Beginning.{StartedFirst, FindsNoPlace}
 use Rattle.machine_state.specs.Machine.{Standing}
 use Rattle.machine_state.specs.Sourced.{ImageNamed, named_at}
-use Rattle.step_units.specs.Reading.{AreNamed}
+use Rattle.proc_run.specs.Reading.{AreNamed}
 use Rattle.vm_core.specs.declared.first_processes.Started.{Started}
 use Rattle.vm_core.specs.declared.first_processes.Started.TheVariants as starteds
 use Rattle.vm_core.specs.FirstProcesses.{IsNew, StartsFrom, started_by}

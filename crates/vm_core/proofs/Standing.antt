@@ -11,14 +11,14 @@ use Rattle.kernel_model.specs.Kernel.{Kernel}
 use Rattle.machine_state.specs.Sourced.{ImageNamed}
 use Rattle.machine_state.specs.Files.{AreRunImages}
 use Rattle.machine_state.specs.Machine.{Standing}
-use Rattle.step_units.specs.Reading.{AreNamed}
+use Rattle.proc_run.specs.Reading.{AreNamed}
 use Rattle.run_model.specs.State.{State}
-use Rattle.run_laws.proofs.Machines.{swaps_follow}
+use Rattle.economy_laws.proofs.Machines.{swaps_follow}
 use Rattle.economy_laws.proofs.Idle.{many_on}
-use Rattle.run_units.specs.Leads.{Leads}
-use Rattle.run_units.proofs.Units.{both_lead, leads_at}
-use Rattle.step_units.specs.Stepped.{StopLeads}
-use Rattle.step_units.proofs.Longwords.{longwords_stay}
+use Rattle.proc_run.specs.Leads.{Leads}
+use Rattle.proc_run.proofs.Units.{both_lead, leads_at}
+use Rattle.proc_run.specs.Stepped.{StopLeads}
+use Rattle.proc_run.proofs.Longwords.{longwords_stay}
 use Rattle.vm_core.specs.Cores.{InputsOf, StandsIn}
 
 pub inputs_on : (A : Inputs) (old new : Standing) → InputsOf A old → new.params ≡ old.params → new.images ≡ old.images → InputsOf A new

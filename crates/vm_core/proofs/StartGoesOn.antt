@@ -6,9 +6,9 @@ use Rattle.flat_state.specs.Journal.{instructions_of}
 use Rattle.kernel_model.specs.Kernel.{Kernel}
 use Rattle.machine_state.specs.Going.{CanGoOn}
 use Rattle.machine_state.specs.Machine.{Standing}
-use Rattle.swapper.specs.LastMoves.{last_moves}
-use Rattle.step_units.specs.Ready.{Continues}
-use Rattle.step_units.specs.Sizes.{SameSizes}
+use Rattle.proc_run.specs.LastMoves.{last_moves}
+use Rattle.proc_run.specs.Ready.{Continues}
+use Rattle.proc_run.specs.Sizes.{SameSizes}
 use Rattle.vm_core.specs.FirstProcesses.{IsNew, HasStarted}
 
 pub new_frames : (m : Standing) → IsNew m → length m.kernel.place.holds ≡ m.params.frames

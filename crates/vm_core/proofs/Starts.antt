@@ -8,12 +8,12 @@ use Rattle.swap_book.specs.Holdings.{Holdings}
 use Rattle.flat_state.specs.Flat.{Inputs}
 use Rattle.flat_model.specs.Run.{Point, IsBetween}
 use Rattle.machine_state.specs.Machine.{Standing}
-use Rattle.run_laws.specs.Longwords.{ProcessesFit}
-use Rattle.run_laws.proofs.Registers.{start_regs_are}
+use Rattle.economy_laws.specs.Longwords.{ProcessesFit}
+use Rattle.economy_laws.proofs.Registers.{start_regs_are}
 use Rattle.run_model.specs.State.{start}
 use Rattle.run_model.specs.Next.{under, last_turned}
-use Rattle.run_laws.proofs.Sizing.{started_few}
-use Rattle.run_units.specs.Serving.{At}
+use Rattle.economy_laws.proofs.Sizing.{started_few}
+use Rattle.proc_run.specs.RunUnitsServing.{At}
 use Rattle.vm_core.specs.FirstProcesses.{HasStarted}
 use Rattle.vm_core.specs.Leading.{IsTold, machine_at_start, StartLeads, StartStops}
 use Rattle.vm_core.proofs.Led.{stands_at_start}

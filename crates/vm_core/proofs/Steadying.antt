@@ -12,12 +12,12 @@ use Rattle.machine_state.specs.Going.{CanGoOn}
 use Rattle.machine_state.specs.Machine.{Standing}
 use Rattle.machine_state.specs.Settled.{IsSameBeside}
 use Rattle.machine_state.specs.Swapping.{IsIn, AsksU}
-use Rattle.swapper.specs.LastMoves.{last_moves}
-use Rattle.step_units.specs.Ready.{Continues, RunsMoved}
-use Rattle.step_units.proofs.Journals.{last_plain}
-use Rattle.step_units.proofs.Entries.{note_continues}
-use Rattle.step_units.proofs.LinesContinue.{turn_continues}
-use Rattle.swapper.specs.declared.Turned.TheVariants as turns
+use Rattle.proc_run.specs.LastMoves.{last_moves}
+use Rattle.proc_run.specs.Ready.{Continues, RunsMoved}
+use Rattle.proc_run.proofs.Journals.{last_plain}
+use Rattle.proc_run.proofs.Entries.{note_continues}
+use Rattle.proc_run.proofs.LinesContinue.{turn_continues}
+use Rattle.proc_run.specs.Turned.TheVariants as turns
 use Rattle.proc_run.specs.Runs.{IsSteady}
 use Rattle.vm_core.specs.Steady.{StaysSteady}
 

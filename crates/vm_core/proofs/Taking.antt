@@ -13,18 +13,18 @@ use Rattle.page_model.specs.Placement.{Placement}
 use Rattle.page_model.specs.Swapper.{swap_choice}
 use Rattle.kernel_model.specs.Kernel.{note_step}
 use Rattle.machine_state.specs.Machine.{Standing}
-use Rattle.swapper.specs.Stops.{StopsBefore}
+use Rattle.proc_run.specs.Stops.{StopsBefore}
 use Rattle.flat_model.specs.Run.{Point}
 use Rattle.run_model.specs.declared.mark.Mark.TheVariants as marks
 use Rattle.run_model.specs.State.{State, runners}
 use Rattle.run_model.specs.After.{interrupt_mark, swap_mark, mark_of_event}
-use Rattle.run_laws.proofs.Finishing.{units_below}
-use Rattle.run_laws.proofs.Machines.{swaps_follow}
-use Rattle.run_units.specs.Leads.{Leads}
-use Rattle.run_units.proofs.Units.{both_lead}
-use Rattle.step_units.specs.Stepped.{StopLeads, LeadsFrom, StopsFrom}
-use Rattle.step_units.specs.Lines.{LineBegun, LineLeads}
-use Rattle.step_units.proofs.Beginning.{line_begins, line_stops}
+use Rattle.economy_laws.proofs.RunLawsFinishing.{units_below}
+use Rattle.economy_laws.proofs.Machines.{swaps_follow}
+use Rattle.proc_run.specs.Leads.{Leads}
+use Rattle.proc_run.proofs.Units.{both_lead}
+use Rattle.proc_run.specs.Stepped.{StopLeads, LeadsFrom, StopsFrom}
+use Rattle.proc_run.specs.Lines.{LineBegun, LineLeads}
+use Rattle.proc_run.proofs.StepUnitsBeginning.{line_begins, line_stops}
 use Rattle.proc_run.specs.Running.{CountsTo}
 use Rattle.vm_core.specs.Accounts.{StopsAccounted, StopsAccountedFrom}
 use Rattle.vm_core.specs.Steady.{StaysSteady}

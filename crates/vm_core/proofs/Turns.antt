@@ -13,18 +13,18 @@ use Rattle.page_model.specs.Placement.{Placement}
 use Rattle.kernel_model.specs.Kernel.{Kernel, note_step}
 use Rattle.machine_state.specs.Machine.{Standing}
 use Rattle.machine_state.specs.Swapping.{AsksU, IsIn}
-use Rattle.swapper.specs.Stops.{StopsAt, StopsBefore}
+use Rattle.proc_run.specs.Stops.{StopsAt, StopsBefore}
 use Rattle.run_model.specs.State.{State}
 use Rattle.run_model.specs.Next.{goes_on, turn_instructions}
-use Rattle.run_units.specs.Leads.{Leads}
-use Rattle.run_units.proofs.Units.{none_leads, both_lead}
-use Rattle.step_units.specs.Stepped.{StopLeads, LeadsFrom, StopsFrom}
-use Rattle.step_units.specs.Lines.{TurnDue, TurnBegun, CameIn}
-use Rattle.step_units.proofs.Beginning.{turn_stops}
-use Rattle.step_units.proofs.Turning.{turn_begins, comes_in, coming_in_stops}
+use Rattle.proc_run.specs.Leads.{Leads}
+use Rattle.proc_run.proofs.Units.{none_leads, both_lead}
+use Rattle.proc_run.specs.Stepped.{StopLeads, LeadsFrom, StopsFrom}
+use Rattle.proc_run.specs.Lines.{TurnDue, TurnBegun, CameIn}
+use Rattle.proc_run.proofs.StepUnitsBeginning.{turn_stops}
+use Rattle.proc_run.proofs.Turning.{turn_begins, comes_in, coming_in_stops}
 use Rattle.run_model.specs.declared.mark.Mark.TheVariants as marks
-use Rattle.run_laws.proofs.Finishing.{units_below}
-use Rattle.run_laws.proofs.Machines.{swaps_follow}
+use Rattle.economy_laws.proofs.RunLawsFinishing.{units_below}
+use Rattle.economy_laws.proofs.Machines.{swaps_follow}
 use Rattle.proc_run.specs.Running.{CountsTo}
 use Rattle.vm_core.specs.Steady.{StaysSteady}
 use Rattle.vm_core.specs.Cores.{StandsIn}

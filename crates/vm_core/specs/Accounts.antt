@@ -7,9 +7,9 @@ use Rattle.kernel_model.specs.Kernel.{Kernel}
 use Rattle.machine_state.specs.Machine.{Standing}
 use Rattle.run_model.specs.State.{State}
 use Rattle.run_model.specs.Swapped.{left_from}
-use Rattle.step_units.specs.Stepped.{StopLeads, LeadsFrom}
-use Rattle.run_units.specs.Accounts.{Account}
-use Rattle.run_units.specs.Economy.{Economy}
+use Rattle.proc_run.specs.Stepped.{StopLeads, LeadsFrom}
+use Rattle.proc_run.specs.Accounts.{Account}
+use Rattle.proc_run.specs.Economy.{Economy}
 
 -- Next units lead to a state, and there the run stopped. These units are accounted for, and few, and up to the one at which the
 -- run stopped the swap image is the one that they say.

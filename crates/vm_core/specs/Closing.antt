@@ -12,13 +12,13 @@ use Rattle.run_model.specs.State.{State}
 use Rattle.run_model.specs.Next.{goes_on, turn_instructions, last_turned, next_unit}
 use Rattle.run_model.specs.Lawful.{Follows}
 use Rattle.run_model.specs.Swapped.{left_from}
-use Rattle.run_laws.specs.Running.{IsRun}
+use Rattle.economy_laws.specs.RunLawsRunning.{IsRun}
 use Rattle.economy_laws.specs.Stretch.{turns_of, NoneCounts}
-use Rattle.run_units.specs.Leads.{Leads}
-use Rattle.step_units.specs.Lines.{IsOver, IsClear, TurnDue}
+use Rattle.proc_run.specs.Leads.{Leads}
+use Rattle.proc_run.specs.Lines.{IsOver, IsClear, TurnDue}
 use Rattle.proc_run.specs.Choosing.{turn_after as chosen_next}
-use Rattle.run_units.specs.Accounts.{Account}
-use Rattle.run_units.specs.Economy.{Economy}
+use Rattle.proc_run.specs.Accounts.{Account}
+use Rattle.proc_run.specs.Economy.{Economy}
 use Rattle.vm_core.specs.Cores.{Underway, StandsIn, CoreAt}
 
 -- A turn.

@@ -7,19 +7,19 @@ use Rattle.io_edge.specs.FileHolding.{NamedFile}
 use Rattle.flat_state.specs.Flat.{Inputs}
 use Rattle.flat_state.specs.Journal.{instructions_of}
 use Rattle.machine_state.specs.Machine.{Standing}
-use Rattle.step_units.specs.Reading.{AreNamed}
-use Rattle.run_laws.specs.Longwords.{AllImages}
+use Rattle.proc_run.specs.Reading.{AreNamed}
+use Rattle.economy_laws.specs.Longwords.{AllImages}
 use Rattle.run_model.specs.State.{State}
 use Rattle.run_model.specs.After.{mark_of_event}
 use Rattle.run_model.specs.Next.{last_turned}
 use Rattle.run_model.specs.Swapped.{left_from}
-use Rattle.run_units.specs.Leads.{Leads}
-use Rattle.step_units.specs.Machines.{MachineAt}
-use Rattle.step_units.specs.Lines.{IsOver, IsClear}
-use Rattle.step_units.specs.Registers.{HasLongwords}
+use Rattle.proc_run.specs.Leads.{Leads}
+use Rattle.proc_run.specs.Machines.{MachineAt}
+use Rattle.proc_run.specs.Lines.{IsOver, IsClear}
+use Rattle.proc_run.specs.Registers.{HasLongwords}
 use Rattle.proc_run.specs.Runs.{IsSteady}
-use Rattle.run_units.specs.Accounts.{Account}
-use Rattle.run_units.specs.Economy.{Economy}
+use Rattle.proc_run.specs.Accounts.{Account}
+use Rattle.proc_run.specs.Economy.{Economy}
 
 -- a run: its machine, and how many instructions were counted
 pub record Underway : Type 0 where

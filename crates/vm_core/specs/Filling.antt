@@ -7,8 +7,8 @@ use Rattle.vm_facts.specs.declared.stop.Stop.{Stop}
 use Rattle.io_edge.specs.FileHolding.{NamedFile}
 use Rattle.page_model.specs.Placement.{Placement, Due, Start, CopyOf}
 use Rattle.machine_state.specs.Machine.{Standing}
-use Rattle.step_units.specs.Copying.{CopiesPage, StopsPage, OnceCopied}
-use Rattle.step_units.specs.Filling.{FillsStart, StopsFilling}
+use Rattle.proc_run.specs.Copying.{CopiesPage, StopsPage, OnceCopied}
+use Rattle.proc_run.specs.Filling.{FillsStart, StopsFilling}
 
 -- what is due of a page, by its parent's page, where it is to be copied from one
 abbrev pub due_of : Page → Option Page → Due

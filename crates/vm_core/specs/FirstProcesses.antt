@@ -8,8 +8,8 @@ use Rattle.machine_state.specs.New.{fresh_kernel}
 use Rattle.machine_state.specs.Applying.{facts_named}
 use Rattle.machine_state.specs.Machine.{Standing}
 use Rattle.machine_state.specs.Sourced.{ImageNamed}
-use Rattle.swapper.specs.LastMoves.{last_moves}
-use Rattle.step_units.specs.Reading.{AreNamed}
+use Rattle.proc_run.specs.LastMoves.{last_moves}
+use Rattle.proc_run.specs.Reading.{AreNamed}
 use Rattle.vm_core.specs.declared.first_processes.Started.{Started}
 use Rattle.vm_core.specs.declared.first_processes.Started.TheVariants as starteds
 

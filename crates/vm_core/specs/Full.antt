@@ -15,7 +15,7 @@ use Rattle.machine_state.specs.Failing.{LosesOldest}
 use Rattle.run_model.specs.State.{State}
 use Rattle.run_model.specs.Next.{next_unit}
 use Rattle.run_model.specs.Swapped.{swap_left}
-use Rattle.run_laws.specs.Machine.{StandsAt}
+use Rattle.economy_laws.specs.Machine.{StandsAt}
 use Rattle.vm_core.specs.Lawful.{IsJournalOf}
 
 -- The machine runs on, no pieces wait, and it stands for a state with this swap image: its frames, its records and that image have

@@ -7,8 +7,8 @@ use Rattle.flat_state.specs.Journal.{appended, units_of, instructions_of}
 use Rattle.flat_model.specs.Run.{flat_run}
 use Rattle.flat_model.specs.Asked.{start_held}
 use Rattle.run_model.specs.Snapshot.{Snapshot, start_snapshot, snapshot_after}
-use Rattle.run_laws.specs.Turns.{ComesInTurn}
-use Rattle.run_units.specs.Owners.{IsOwned, RefusesRightly}
+use Rattle.economy_laws.specs.Turns.{ComesInTurn}
+use Rattle.proc_run.specs.Owners.{IsOwned, RefusesRightly}
 
 -- Before each of these units and after the last one each frame and each block of swap has one owner or is free; and a unit says that
 -- pieces of swap found no place exactly where they find none.

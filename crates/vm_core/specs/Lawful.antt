@@ -10,9 +10,9 @@ use Rattle.run_model.specs.State.{State, start}
 use Rattle.run_model.specs.Next.{next_unit}
 use Rattle.run_model.specs.Lawful.{Follows, IsLawful}
 use Rattle.run_model.specs.Swapped.{swap_left}
-use Rattle.run_laws.specs.Running.{CanRun, IsIdle}
-use Rattle.run_units.specs.Accounts.{Account}
-use Rattle.run_units.specs.Economy.{Economy}
+use Rattle.economy_laws.specs.RunLawsRunning.{CanRun, IsIdle}
+use Rattle.proc_run.specs.Accounts.{Account}
+use Rattle.proc_run.specs.Economy.{Economy}
 use Rattle.vm_core.specs.Halting.{HaltsFor, LeavesImage}
 
 -- A journal of a run, and the state to which it leads. It is lawful: units make it, each of which is the next one by the written

@@ -14,11 +14,11 @@ use Rattle.machine_state.specs.Files.{AreRunImages}
 use Rattle.machine_state.specs.Machine.{Standing}
 use Rattle.run_model.specs.State.{State, start}
 use Rattle.run_model.specs.Snapshot.{starting}
-use Rattle.run_laws.specs.Running.{CanRun}
-use Rattle.step_units.specs.Leads.{Leads}
-use Rattle.step_units.specs.Serving.{SameBut}
-use Rattle.step_units.specs.Machines.{MachineAt}
-use Rattle.step_units.specs.Stepped.{StopLeads}
+use Rattle.economy_laws.specs.RunLawsRunning.{CanRun}
+use Rattle.proc_run.specs.Leads.{Leads}
+use Rattle.proc_run.specs.RunUnitsServing.{SameBut}
+use Rattle.proc_run.specs.Machines.{MachineAt}
+use Rattle.proc_run.specs.Stepped.{StopLeads}
 use Rattle.vm_core.specs.FirstProcesses.{StartsFrom}
 
 -- The files hold the images of the inputs, which are as long as their pages, and this swap image has all blocks.

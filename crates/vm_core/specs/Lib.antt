@@ -1,13 +1,25 @@
-pub use Rattle.step_units.specs.Reading
-pub use Rattle.step_units.specs.Sizes
-pub use Rattle.step_units.specs.Stepped
-pub use Rattle.run_laws.specs.Longwords
-pub use Rattle.run_laws.specs.Files
+pub use Rattle.proc_run.specs.Reading
+pub use Rattle.proc_run.specs.Sizes
+pub use Rattle.proc_run.specs.Stepped
+pub use Rattle.economy_laws.specs.Longwords
+pub use Rattle.economy_laws.specs.Files
 pub use Rattle.proc_run.specs.Choosing
 pub use Rattle.proc_run.specs.Runs
 pub use Rattle.proc_run.specs.Running
 pub use Rattle.proc_run.specs.Rests
 pub use Rattle.proc_run.specs.declared.finishing.Begun
+pub use Rattle.proc_run.specs.Machines
+pub use Rattle.proc_run.specs.Lines as StepUnitsLines
+pub use Rattle.proc_run.specs.StepUnitsRests
+pub use Rattle.proc_run.specs.Runners
+pub use Rattle.proc_run.specs.Putting
+pub use Rattle.proc_run.specs.Turned
+pub use Rattle.proc_run.specs.LastMoves
+pub use Rattle.proc_run.specs.Leads
+pub use Rattle.proc_run.specs.RunUnitsServing as Serving
+pub use Rattle.proc_run.specs.Stops
+pub use Rattle.proc_run.specs.Moved
+pub use Rattle.proc_run.specs.Made
 pub mod FirstProcesses
 pub mod Beginning
 pub mod Filling

@@ -5,11 +5,11 @@ use Rattle.vm_facts.specs.declared.event.Event.{Event}
 use Rattle.io_edge.specs.FileHolding.{NamedFile}
 use Rattle.flat_state.specs.Flat.{Inputs}
 use Rattle.machine_state.specs.Machine.{Standing}
-use Rattle.run_laws.specs.Longwords.{ProcessesFit}
+use Rattle.economy_laws.specs.Longwords.{ProcessesFit}
 use Rattle.run_model.specs.State.{State}
 use Rattle.run_model.specs.After.{mark_of_event}
-use Rattle.step_units.specs.Machines.{MachineAt}
-use Rattle.step_units.specs.Lines.{IsClear}
+use Rattle.proc_run.specs.Machines.{MachineAt}
+use Rattle.proc_run.specs.Lines.{IsClear}
 
 -- The machine stands at a state under the mark of a line, with a swap image that is told.
 pub record LineAt (m : Standing) (holds : Option (List NamedFile)) (i : Option SwapImage) (e : Event) (A : Inputs) (s : State)

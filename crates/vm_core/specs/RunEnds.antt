@@ -11,8 +11,8 @@ use Rattle.flat_model.specs.Asked.{start_held}
 use Rattle.kernel_model.specs.Start.{ImagesFit}
 use Rattle.machine_state.specs.Machine.{Standing}
 use Rattle.machine_state.specs.Files.{AreRunImages}
-use Rattle.step_units.specs.Reading.{AreNamed}
-use Rattle.run_laws.specs.Longwords.{AllImages}
+use Rattle.proc_run.specs.Reading.{AreNamed}
+use Rattle.economy_laws.specs.Longwords.{AllImages}
 use Rattle.vm_core.specs.declared.schedule.Unfinished.{Unfinished}
 use Rattle.vm_core.specs.declared.schedule.Unfinished.TheVariants.{NoSpace, Stopped}
 use Rattle.vm_core.specs.Lawful.{RunFinished, RunHalted, RunStarved}

@@ -7,7 +7,7 @@ use Rattle.io_edge.specs.FileHolding.{NamedFile}
 use Rattle.flat_state.specs.Flat.{Inputs}
 use Rattle.run_model.specs.State.{State}
 use Rattle.run_model.specs.Next.{next_unit}
-use Rattle.run_units.specs.Leads.{Leads}
+use Rattle.proc_run.specs.Leads.{Leads}
 use Rattle.vm_core.specs.declared.events.Went.{Went}
 use Rattle.vm_core.specs.declared.events.Went.TheVariants as wents
 use Rattle.vm_core.specs.Cores.{Underway, CoreAt}

@@ -9,13 +9,13 @@ use Rattle.flat_state.specs.Flat.{Inputs}
 use Rattle.machine_state.specs.Machine.{Standing}
 use Rattle.run_model.specs.State.{State, start}
 use Rattle.run_model.specs.Swapped.{left_from}
-use Rattle.run_laws.specs.Running.{CanRun}
-use Rattle.run_units.specs.Leads.{Leads}
-use Rattle.run_units.specs.Serving.{SameBut}
+use Rattle.economy_laws.specs.RunLawsRunning.{CanRun}
+use Rattle.proc_run.specs.Leads.{Leads}
+use Rattle.proc_run.specs.RunUnitsServing.{SameBut}
 use Rattle.vm_core.specs.FirstProcesses.{IsNew}
 use Rattle.vm_core.specs.Leading.{IsTold, machine_at_start, StopsBeginning}
-use Rattle.run_units.specs.Accounts.{Account}
-use Rattle.run_units.specs.Economy.{Economy}
+use Rattle.proc_run.specs.Accounts.{Account}
+use Rattle.proc_run.specs.Economy.{Economy}
 use Rattle.vm_core.specs.Accounts.{StopsAccounted}
 use Rattle.vm_core.specs.Cores.{Underway, InputsOf, CoreAt}
 

@@ -1,7 +1,7 @@
 //! First processes begin one by one, until the pieces of one find no place. No entry may stand in the journal yet.
 ghost use Rattle.std.specs.Prelude.{◌≡◌, ◌≤◌, ◌+◌, true, [], length, IfOk, IfErr, OnOk, OnErr};
 ghost use Rattle.machine_state.specs.Going.{CanGoOn};
-ghost use Rattle.step_units.specs.Sizes.{SameSizes};
+ghost use Rattle.proc_run.specs.Sizes.{SameSizes};
 ghost use Rattle.vm_core.specs.FirstProcesses.{AreAmong};
 ghost use Rattle.vm_core.specs.Beginning.{Begins};
 

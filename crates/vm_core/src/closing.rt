@@ -8,8 +8,8 @@ ghost use Rattle.kernel_model.specs.Kernel.{HoldsSpace};
 ghost use Rattle.machine_state.specs.Going.{IsRunning};
 ghost use Rattle.machine_state.specs.Calls.{life_in};
 ghost use Rattle.machine_state.specs.Outside.{IsBacked, stop_of, TransfersPages};
-ghost use Rattle.step_units.specs.Sizes.{KeptAtStop};
-ghost use Rattle.step_units.specs.Stepped.{LeadsFrom, StopsFrom};
+ghost use Rattle.proc_run.specs.Sizes.{KeptAtStop};
+ghost use Rattle.proc_run.specs.Stepped.{LeadsFrom, StopsFrom};
 ghost use Rattle.proc_run.specs.Choosing.{turn_after};
 ghost use Rattle.proc_run.specs.Runs.{IsSteady};
 ghost use Rattle.proc_run.specs.Running.{CountsTo};
@@ -23,10 +23,10 @@ use crate::run::Core;
 use crate::running::finish;
 use io_edge::{Files, SwapDev};
 use machine_state::Machine;
+use proc_run::step_units::swapper::swap_in;
 use proc_run::{DecodeCache, next_turned};
 use proc_table::Life;
 use std::alloc::Global;
-use step_units::swapper::swap_in;
 use vm_facts::{Entry, Stop};
 
 /// No more turns in a row count no instruction: there are no more processes.

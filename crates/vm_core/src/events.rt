@@ -2,10 +2,10 @@
 ghost use Rattle.io_edge.specs.WithFiles.{stores};
 ghost use Rattle.std.specs.Prelude.{◌≡◌, ◌<◌, ◌≤◌, ◌↔◌, OnOk, IfOk, IfErr};
 ghost use Rattle.machine_state.specs.Outside.{IsBacked, stop_of, TransfersPages};
-ghost use Rattle.swapper.specs.LastMoves.{last_moves};
+ghost use Rattle.proc_run.specs.LastMoves.{last_moves};
 ghost use Rattle.flat_state.specs.Journal.{instructions_of};
-ghost use Rattle.step_units.specs.Sizes.{KeptAtStop};
-ghost use Rattle.step_units.specs.Stepped.{LeadsFrom, StopsFrom};
+ghost use Rattle.proc_run.specs.Sizes.{KeptAtStop};
+ghost use Rattle.proc_run.specs.Stepped.{LeadsFrom, StopsFrom};
 ghost use Rattle.proc_run.specs.Runs.{IsSteady};
 ghost use Rattle.proc_run.specs.Running.{CountsTo};
 ghost use Rattle.vm_core.specs.Steady.{HasFewMoves};

@@ -5,16 +5,16 @@ ghost use Rattle.vm_facts.specs.declared.page.Page.{Page as AnyPage};
 ghost use Rattle.page_model.specs.Rank.{HasRoom};
 ghost use Rattle.machine_state.specs.Going.{CanGoOn};
 ghost use Rattle.machine_state.specs.Outside.{Asks, stop_of, TransfersPages};
-ghost use Rattle.swapper.specs.LastMoves.{last_moves};
-ghost use Rattle.step_units.specs.Ready.{Continues};
-ghost use Rattle.step_units.specs.Sizes.{KeptAtStop};
-ghost use Rattle.step_units.specs.Stepped.{LeadsFrom, StopsFrom};
+ghost use Rattle.proc_run.specs.LastMoves.{last_moves};
+ghost use Rattle.proc_run.specs.Ready.{Continues};
+ghost use Rattle.proc_run.specs.Sizes.{KeptAtStop};
+ghost use Rattle.proc_run.specs.Stepped.{LeadsFrom, StopsFrom};
 ghost use Rattle.vm_core.specs.Filling.{due_of, IsDueFirst, FillsDue, StopsDue};
 ghost use Rattle.vm_core.specs.Leading.{ToldAt, FillsLead};
 
 use io_edge::{Files, SwapDev};
 use machine_state::Machine;
-use step_units::proc_calls::{copy_page, fill_start};
+use proc_run::step_units::proc_calls::{copy_page, fill_start};
 use vm_facts::{Page, Stop};
 
 // What is due first is filled: a new stack page with its bytes, while nothing is locked, or a child's page by a copy of its

@@ -7,7 +7,7 @@ ghost use Rattle.flat_state.specs.Flat.{Inputs};
 ghost use Rattle.flat_model.specs.Asked.{start_held};
 ghost use Rattle.machine_state.specs.Going.{CanGoOn};
 ghost use Rattle.machine_state.specs.Outside.{IsBacked, stop_of, TransfersPages};
-ghost use Rattle.step_units.specs.Sizes.{KeptAtStop};
+ghost use Rattle.proc_run.specs.Sizes.{KeptAtStop};
 ghost use Rattle.vm_core.specs.FirstProcesses.{IsNew, AreAmong, StartsFrom, started_by, HasStarted};
 ghost use Rattle.vm_core.specs.Leading.{IsTold, StartLeads, StartStops};
 

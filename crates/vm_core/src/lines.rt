@@ -8,11 +8,11 @@ ghost use Rattle.kernel_model.specs.Kernel.{note_step};
 ghost use Rattle.machine_state.specs.Going.{CanGoOn};
 ghost use Rattle.machine_state.specs.Calls.{IsNote};
 ghost use Rattle.machine_state.specs.Outside.{IsBacked, stop_of, TransfersPages};
-ghost use Rattle.swapper.specs.Stops.{StopsBefore};
-ghost use Rattle.swapper.specs.LastMoves.{last_moves};
-ghost use Rattle.step_units.specs.Lines.{LineLeads};
-ghost use Rattle.step_units.specs.Sizes.{KeptAtStop};
-ghost use Rattle.step_units.specs.Stepped.{LeadsFrom, StopsFrom};
+ghost use Rattle.proc_run.specs.Stops.{StopsBefore};
+ghost use Rattle.proc_run.specs.LastMoves.{last_moves};
+ghost use Rattle.proc_run.specs.Lines.{LineLeads};
+ghost use Rattle.proc_run.specs.Sizes.{KeptAtStop};
+ghost use Rattle.proc_run.specs.Stepped.{LeadsFrom, StopsFrom};
 ghost use Rattle.proc_run.specs.Runs.{IsSteady};
 ghost use Rattle.vm_core.specs.Steady.{StaysSteady};
 ghost use Rattle.vm_core.specs.Lines.{LineAt};
@@ -20,8 +20,8 @@ ghost use Rattle.vm_core.specs.Lines.{LineAt};
 use crate::owners::owners_of;
 use io_edge::{Files, SwapDev};
 use machine_state::Machine;
-use run_units::clock_hands::move_hands;
-use step_units::swapper::turn;
+use proc_run::run_units::clock_hands::move_hands;
+use proc_run::step_units::swapper::turn;
 use vm_facts::{Entry, Event, Stop};
 
 /// An entry is noted that changes nothing, by a machine whose last entry may count any moves of the hands.

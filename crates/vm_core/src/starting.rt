@@ -6,7 +6,7 @@ ghost use Rattle.flat_state.specs.Flat.{Inputs};
 ghost use Rattle.flat_model.specs.Asked.{start_held};
 ghost use Rattle.machine_state.specs.Going.{CanGoOn};
 ghost use Rattle.machine_state.specs.Outside.{IsBacked, stop_of, TransfersPages};
-ghost use Rattle.step_units.specs.Sizes.{KeptAtStop};
+ghost use Rattle.proc_run.specs.Sizes.{KeptAtStop};
 ghost use Rattle.vm_core.specs.FirstProcesses.{AreAmong, StartsFrom, started_by};
 ghost use Rattle.vm_core.specs.Leading.{IsTold};
 ghost use Rattle.vm_core.specs.Cores.{StandsUnderway};

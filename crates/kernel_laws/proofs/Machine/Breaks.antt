@@ -13,8 +13,8 @@ use Rattle.vm_facts.specs.declared.page.Page.TheVariants.{Data, Stack, Text}
 use Rattle.vm_facts.specs.declared.regs.Regs.{Regs}
 use Rattle.vm_facts.specs.declared.entry.Entry.{Entry}
 use Rattle.aout_image.specs.Image.{page_at}
-use Rattle.swap_dmap.specs.Chunks.{pieces}
-use Rattle.swap_dmap.proofs.PieceLaws.{spot_chunk}
+use Rattle.swap_book.specs.Chunks.{pieces}
+use Rattle.swap_book.proofs.PieceLaws.{spot_chunk}
 use Rattle.swap_book.specs.declared.Owner.{Owner}
 use Rattle.swap_book.specs.declared.Owner.TheVariants as owners
 use Rattle.swap_book.specs.Owners.{same_owner, spot_of}

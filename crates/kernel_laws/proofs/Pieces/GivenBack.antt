@@ -5,9 +5,9 @@ use Rattle.std.proofs.lemmas.Bool.{cases_eq, cases_lt, le-leb, false≢true}
 use Rattle.std.proofs.lemmas.Bool.Decides.{nat_tests}
 use Rattle.std.proofs.lemmas.List.{append-nil}
 use Rattle.std.proofs.lemmas.List.Elements.{All-cons, All-head, All-tail}
-use Rattle.swap_dmap.specs.Chunks.{chunk_start, chunks_holding, pieces, text_pieces}
-use Rattle.swap_dmap.proofs.ChunkLaws.{lowest_fails}
-use Rattle.swap_dmap.proofs.PieceLaws.{length-pieces, pieces_enough, pieces_front, pieces_none, text_pieces_whole}
+use Rattle.swap_book.specs.Chunks.{chunk_start, chunks_holding, pieces, text_pieces}
+use Rattle.swap_book.proofs.ChunkLaws.{lowest_fails}
+use Rattle.swap_book.proofs.PieceLaws.{length-pieces, pieces_enough, pieces_front, pieces_none, text_pieces_whole}
 use Rattle.swap_book.specs.declared.Owner.{Owner}
 use Rattle.swap_book.specs.declared.Owner.TheVariants as owners
 use Rattle.swap_book.specs.declared.Held.{Held}

@@ -6,8 +6,8 @@ use Rattle.std.proofs.lemmas.Bool.{eqb-true, ne_eqb}
 use Rattle.vm_facts.specs.declared.page.Page.TheVariants.{Data, Stack, Text}
 use Rattle.aout_image.specs.declared.Image.{Image}
 use Rattle.aout_image.specs.Image.{image_data_pages}
-use Rattle.swap_dmap.specs.Chunks.{pieces, text_pieces}
-use Rattle.swap_dmap.proofs.PieceLaws.{pieces_none}
+use Rattle.swap_book.specs.Chunks.{pieces, text_pieces}
+use Rattle.swap_book.proofs.PieceLaws.{pieces_none}
 use Rattle.swap_book.specs.declared.Owner.{Owner}
 use Rattle.swap_book.specs.declared.Owner.TheVariants as owners
 use Rattle.swap_book.specs.Owners.{u_pieces}

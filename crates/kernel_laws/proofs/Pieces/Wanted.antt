@@ -9,8 +9,8 @@ use Rattle.vm_facts.specs.declared.page.PageState.TheVariants.{Unfilled}
 use Rattle.vm_facts.specs.declared.regs.Regs.{Regs}
 use Rattle.vm_facts.specs.declared.entry.Entry.{Entry}
 use Rattle.aout_image.specs.Image.{image_data_pages}
-use Rattle.swap_dmap.specs.Chunks.{pieces, text_pieces}
-use Rattle.swap_dmap.proofs.PieceLaws.{pieces_none}
+use Rattle.swap_book.specs.Chunks.{pieces, text_pieces}
+use Rattle.swap_book.proofs.PieceLaws.{pieces_none}
 use Rattle.swap_book.specs.declared.Owner.{Owner}
 use Rattle.swap_book.specs.declared.Owner.TheVariants as owners
 use Rattle.swap_book.specs.Owners.{same_owner, u_pieces}

@@ -11,7 +11,7 @@ use Rattle.swap_book.specs.Book.{IsBook}
 use Rattle.swap_book.specs.declared.Owner.{Owner}
 use Rattle.swap_book.specs.declared.Owner.TheVariants as owners
 use Rattle.swap_book.specs.Owners.{u_pieces}
-use Rattle.swap_dmap.specs.Chunks.{pieces}
+use Rattle.swap_book.specs.Chunks.{pieces}
 use Rattle.swap_book.specs.Holdings.{Holdings, lengths, kept}
 use Rattle.flat_state.specs.declared.change.Change.{Change}
 use Rattle.flat_state.specs.declared.change.Change.TheVariants.{Resize, Fork, Lend, Exec, Reap, Sleep, End}

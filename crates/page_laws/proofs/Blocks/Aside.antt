@@ -10,7 +10,7 @@ use Rattle.page_model.specs.Holdings.{Holdings}
 use Rattle.page_model.specs.Book.{IsBook, ArePlacesApart}
 use Rattle.page_model.proofs.PlaceLaws.{places_apart_of}
 use Rattle.page_model.specs.Pages.{Slot, frame_of, left_state, written_mark}
-use Rattle.flat_state.specs.PageNames.{number_of}
+use Rattle.page_model.specs.PageNames.{number_of}
 use Rattle.vm_facts.specs.Lists.{times}
 use Rattle.page_model.specs.Placement.{Placement, Transfer, slots_of, slot_of, state_of, mark_of, page_of, sharers, IsThere}
 use Rattle.page_model.specs.Moves.{evict, evict_at, enter, turn}

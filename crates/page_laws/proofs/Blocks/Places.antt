@@ -5,7 +5,7 @@ use Rattle.vm_facts.specs.declared.page.Page.TheVariants.{Data, Stack, Text}
 use Rattle.page_model.specs.Holdings.{Holdings}
 use Rattle.page_model.specs.Book.{IsBook, IsPlace, ArePlacesApart}
 use Rattle.page_model.proofs.PlaceLaws.{places_apart_of}
-use Rattle.flat_state.specs.PageNames.{number_of}
+use Rattle.page_model.specs.PageNames.{number_of}
 use Rattle.page_model.specs.Ownership.{owner_of, block_of}
 use Rattle.page_model.specs.PageBytes.{Bytes, Stores}
 use Rattle.page_model.specs.Stored.{stored_at, stored, store_at}

@@ -8,7 +8,7 @@ use Rattle.vm_facts.specs.declared.entry.Entry.{Entry}
 use Rattle.vm_facts.specs.declared.entry.Entry.TheVariants as entries
 use Rattle.page_model.specs.Holdings.{Holdings}
 use Rattle.page_model.specs.Pages.{written_mark, SpacePages, TextPages, numbered, data_in, stack_in, text_in}
-use Rattle.flat_state.specs.PageNames.{is_among, same_page, number_of, beside, pages_from}
+use Rattle.page_model.specs.PageNames.{is_among, same_page, number_of, beside, pages_from}
 use Rattle.vm_facts.specs.Lists.{without}
 use Rattle.page_model.specs.Placement.{Placement, Transfer, Part, Errand, Writes, Reads, Source, slots_of, state_of, mark_of, is_dirty, page_of, parts_of, sharers, put, space_number, image_number, sharers_in}
 use Rattle.page_model.specs.Moves.{evict, turn, fill_at, get_run, launch_run, done, arrived_mark, reclaim, reclaim_to, retire, retire_to}

@@ -4,7 +4,7 @@ use Rattle.std.proofs.lemmas.Bool.{cases_eq, cases_lt}
 use Rattle.vm_facts.specs.declared.page.Page.{Page}
 use Rattle.vm_facts.specs.declared.page.Page.TheVariants.{Data, Stack, Text}
 use Rattle.page_model.specs.Pages.{Slot, Filling, Zeros, no_slot, SpacePages, numbered, data_in, stack_in, frame_of}
-use Rattle.flat_state.specs.PageNames.{number_of}
+use Rattle.page_model.specs.PageNames.{number_of}
 use Rattle.page_model.specs.Placement.{Placement, Transfer, Due, space_number, slots_of, slot_of, state_of, errand_at, due_of_page, parts_of, IsThere, unfilled}
 use Rattle.page_model.specs.Moves.{drop_at, drop_page, drop_all}
 use Rattle.page_model.specs.Place.{sized, cut_space, resize, data_count, stack_count, data_from, stack_from, remove_space, pages_of_space}

@@ -5,7 +5,7 @@ use Rattle.vm_facts.specs.declared.page.Page.TheVariants.{Data, Stack, Text}
 use Rattle.vm_facts.specs.declared.page.PageState.{PageState}
 use Rattle.vm_facts.specs.declared.page.PageState.TheVariants.{Unfilled, Valid, Invalid, Coming, Going, OnSwap}
 use Rattle.page_model.specs.Pages.{Filling, OfImage, frame_of, is_dirty_by, left_state, written_mark}
-use Rattle.flat_state.specs.PageNames.{same_page, is_among}
+use Rattle.page_model.specs.PageNames.{same_page, is_among}
 use Rattle.page_model.specs.Frames.{at_frame}
 use Rattle.vm_facts.specs.Lists.{times, without}
 use Rattle.page_model.specs.Placement.{Placement, Transfer, Part, Moving, Errand, Writes, Reads, Source, FromSwap, FromFile, Due, due_page, moving, state_of, mark_of, is_dirty, filling_of, page_of, errand_at, due_of_page, parts_of, IsFrame, IsThere}
@@ -18,7 +18,7 @@ use Rattle.page_model.specs.Ownership.{OwnsFrames, IsListed, is_marked_dirty}
 use Rattle.page_model.specs.PageBytes.{Bytes, bytes_in, IsInFrame, KeepsUnfilled, IsUnsaved, IsFromFile, KeepsComing, IfSaved, KeepsBy, CouplesPages, with_frame, source_bytes, Stores, WritesBoth, IsWritable, ReadsFrom}
 use Rattle.page_laws.proofs.Lists.Frames.{at_set_same, at_set_other, some_free}
 use Rattle.page_laws.proofs.Lists.Pages.{put_state, put_mark}
-use Rattle.flat_state.proofs.PageNames.{same_page_is}
+use Rattle.page_model.proofs.PageNames.{same_page_is}
 use Rattle.page_laws.proofs.Lists.Parts.{IsOpen, parts_join, errand_push_same, errand_push_other, errand_head, errand_tail}
 use Rattle.page_laws.proofs.Lists.Local.{Local}
 use Rattle.page_laws.proofs.Moves.Steps.{Turns, turn_local, Enters, enter_local, page_in, frame_in, evict_local, evict_owner, EvictRest, evict_rest}
@@ -362,7 +362,7 @@ land_read_coupled p source demanded x rest b o l tokens k = go (same_page x.page
     here = at_set_same b.frames x.frame (source_bytes b source x.page) [] frame.0 (let h = frame.1 in omega arith) ∙ came b source demanded x.page (mark_of p x.page) was
 
     apart : same_page x.page demanded ≡ false → x.page ≢ demanded
-    apart e h = absurd (let i : true ≡ false = sym (Rattle.flat_state.proofs.PageNames.same_page_self demanded) ∙ ap (λ (w : Page). same_page w demanded) (sym h) ∙ e in cc)
+    apart e h = absurd (let i : true ≡ false = sym (Rattle.page_model.proofs.PageNames.same_page_self demanded) ∙ ap (λ (w : Page). same_page w demanded) (sym h) ∙ e in cc)
 
     go : (d : Bool) → same_page x.page demanded ≡ d → CouplesPages (land_read_then p source x rest d) c
     go true e = turn_coupled p x.page x.frame (Valid x.frame) (arrived_mark source x.page (mark_of p x.page)) p.free rest b c o

@@ -5,7 +5,7 @@ use Rattle.vm_facts.specs.declared.page.Page.TheVariants.{Data, Stack, Text}
 use Rattle.vm_facts.specs.declared.page.PageState.{PageState}
 use Rattle.vm_facts.specs.declared.page.PageState.TheVariants.{Unfilled, Valid, Invalid, Coming, Going, OnSwap}
 use Rattle.page_model.specs.Pages.{Slot, frame_of, is_on_swap, is_unfilled}
-use Rattle.flat_state.specs.PageNames.{beside, number_of}
+use Rattle.page_model.specs.PageNames.{beside, number_of}
 use Rattle.page_model.specs.Placement.{Placement, Transfer, Part, Moving, Errand, Writes, Reads, Source, FromSwap, FromFile, Due, filling_by, slots_of, slot_of, state_of, mark_of, is_dirty, errand_at, due_of_page, parts_of}
 use Rattle.page_model.specs.Moves.{evict, get_run, launch_run, done, done_of}
 use Rattle.page_model.specs.Steps.{land_then, land_read_then, land_all_then, get_one, get_at, get_all, begin, launch, launch_all}
@@ -162,7 +162,7 @@ landed_writes (x ∷ xs) p ts b c o h s k =
 
 land_holds : (p : Placement) (source : Source) (demanded : Page) (x : Part) (rest : List Transfer)
     → (land_then p (Reads source demanded) x rest).holds ≡ p.holds
-land_holds p source demanded x rest = go (Rattle.flat_state.specs.PageNames.same_page x.page demanded)
+land_holds p source demanded x rest = go (Rattle.page_model.specs.PageNames.same_page x.page demanded)
   where
     go : (d : Bool) → (land_read_then p source x rest d).holds ≡ p.holds
     go true = refl

@@ -8,7 +8,7 @@ use Rattle.vm_facts.specs.declared.page.PageState.TheVariants.{Unfilled, Valid, 
 use Rattle.aout_image.specs.declared.Image.{Image}
 use Rattle.aout_image.specs.Image.{image_data_pages}
 use Rattle.page_model.specs.Pages.{Slot, Filling, Zeros, OfImage, no_slot, SpacePages, data_in, stack_in, frame_of, is_dirty_by}
-use Rattle.flat_state.specs.PageNames.{number_of, same_page}
+use Rattle.page_model.specs.PageNames.{number_of, same_page}
 use Rattle.vm_facts.specs.Lists.{times}
 use Rattle.page_model.specs.Placement.{Placement, Due, Start, CopyOf, due_page, slots_of, slot_of, state_of, filling_of, is_dirty, due_of_page, image_of, sharers, IsThere, unfilled, unfilled_data, data_filling, new_pages, put}
 use Rattle.page_model.specs.Moves.{turn, leave_by, leave_page, leave_all, listed, listed_of}
@@ -17,7 +17,7 @@ use Rattle.page_model.specs.Conditions.{EachPage, IsNew}
 use Rattle.page_model.specs.Ownership.{OwnsFrames}
 use Rattle.page_model.specs.PageBytes.{Bytes, bytes_in, IsInFrame, KeepsUnfilled, KeepsBy, Keeps, CouplesPages, SameBytes, Copies, FillsBy}
 use Rattle.page_laws.proofs.Lists.Pages.{page_cases, put_state, put_mark, put_other, put_length}
-use Rattle.flat_state.proofs.PageNames.{same_page_is, same_page_self}
+use Rattle.page_model.proofs.PageNames.{same_page_is, same_page_self}
 use Rattle.page_laws.proofs.Moves.Steps.{page_in}
 use Rattle.page_laws.proofs.Ownership.Pages.{retire_turns}
 use Rattle.page_laws.proofs.Lists.Runs.{pages_from_each}

@@ -2,10 +2,10 @@
 use Rattle.std.proofs.Common.{◌≡◌, ◌≢◌, ℕ, zero, suc, ◌<◌, Bool, true, false, List, [], ◌∷◌, ◌++◌, length, get_or, cond, Option, Some, None, refl, sym, ap, ◌∙◌, subst}
 use Rattle.vm_facts.specs.declared.page.Page.{Page}
 use Rattle.vm_facts.specs.declared.page.Page.TheVariants.{Data, Stack, Text}
-use Rattle.flat_state.specs.declared.change.Change.{Change}
-use Rattle.flat_state.specs.declared.change.Change.TheVariants.{Resize, Fork, Lend, Exec, End}
+use Rattle.page_model.specs.Change.{Change}
+use Rattle.page_model.specs.Change.TheVariants.{Resize, Fork, Lend, Exec, End}
 use Rattle.page_model.specs.Pages.{Slot, no_slot, data_in, stack_in}
-use Rattle.flat_state.specs.PageNames.{number_of, same_page}
+use Rattle.page_model.specs.PageNames.{number_of, same_page}
 use Rattle.page_model.specs.Placement.{Placement, Due, Start, CopyOf, due_of_page, filling_by, slots_of, slot_of, sharers, image_of}
 use Rattle.page_model.specs.Moves.{touch, drop_all, leave_page, leave_all}
 use Rattle.page_model.specs.Place.{Changing, data_count, stack_count, data_from, stack_from, fork_space, enter_space, enter_image, remove_space, pages_of_space, pages_of_text, leave_text, leave_text_by, give_up, give_up_unless, place_change, facts_numbered}
@@ -15,7 +15,7 @@ use Rattle.page_model.specs.Dues.{HasSource, IsDue, DueStand}
 use Rattle.page_laws.proofs.Moves.Puts.{rest_by_puts, leave_all_kept}
 use Rattle.page_laws.proofs.Lists.Local.{none_some}
 use Rattle.std.proofs.lemmas.Option.{same_Some}
-use Rattle.flat_state.proofs.PageNames.{same_page_is}
+use Rattle.page_model.proofs.PageNames.{same_page_is}
 use Rattle.page_laws.proofs.Lists.Runs.{each_page_append, pages_from_each}
 use Rattle.page_laws.proofs.Ownership.Spaces.{drop_all_other, drop_all_length}
 use Rattle.page_laws.proofs.Ownership.Changes.{dropped_pages, removed_other}
@@ -44,7 +44,7 @@ not_of_space w sid dn sn n = each_page_append (λ r. w ≢ r) (data_from sid 0 d
     (pages_from_each (λ r. w ≢ r) (Data sid 0) 0 dn (λ v l m e. n (ap key_of e)))
     (pages_from_each (λ r. w ≢ r) (Stack sid 0) 0 sn (λ v l m e. n (ap key_of e)))
 
-not_of_text : (w : Page) (image n : ℕ) → IsWritable w → EachPage (λ r. w ≢ r) (Rattle.flat_state.specs.PageNames.pages_from (Text image 0) 0 n)
+not_of_text : (w : Page) (image n : ℕ) → IsWritable w → EachPage (λ r. w ≢ r) (Rattle.page_model.specs.PageNames.pages_from (Text image 0) 0 n)
 not_of_text (Data sid v) image n i = pages_from_each (λ r. Data sid v ≢ r) (Text image 0) 0 n (λ w l m e. absurd cc)
 not_of_text (Stack sid v) image n i = pages_from_each (λ r. Stack sid v ≢ r) (Text image 0) 0 n (λ w l m e. absurd cc)
 not_of_text (Text j v) image n i = absurd i

@@ -8,7 +8,7 @@ use Rattle.vm_facts.specs.declared.entry.Entry.{Entry}
 use Rattle.vm_facts.specs.declared.entry.Entry.TheVariants as entries
 use Rattle.aout_image.specs.declared.Image.{Image}
 use Rattle.page_model.specs.Pages.{Slot, frame_of, left_state, Zeros, no_slot, stack_in, numbered, is_on_swap}
-use Rattle.flat_state.specs.PageNames.{pages_from, number_of, same_page, beside}
+use Rattle.page_model.specs.PageNames.{pages_from, number_of, same_page, beside}
 use Rattle.page_model.specs.Placement.{Placement, Errand, Reads, Source, Due, Start, CopyOf, filling_by, due_of_page, IsThere, Starting, space_number, spaces_from, due_from, unfilled, new_pages, start_placement, slots_of, slot_of, state_of, mark_of, page_of, put, due_page}
 use Rattle.page_model.specs.Moves.{evict, evict_at, fill_at, get_run, reclaim, done}
 use Rattle.page_model.specs.Steps.{begin, get_one, get_at, get_all}
@@ -26,7 +26,7 @@ use Rattle.page_laws.proofs.Moves.Puts.{rest_by_puts, get_run_kept}
 use Rattle.page_laws.proofs.Ownership.Changes.{numbered_hit, numbered_miss}
 use Rattle.page_laws.proofs.Ownership.Serve.{run_in_enters}
 use Rattle.page_laws.proofs.Lists.Pages.{page_cases, put_state, put_other, put_length}
-use Rattle.flat_state.proofs.PageNames.{same_page_is}
+use Rattle.page_model.proofs.PageNames.{same_page_is}
 use Rattle.page_laws.proofs.Lists.Parts.{IsOpen, begin_open}
 use Rattle.page_laws.proofs.Lists.Local.{none_some}
 use Rattle.std.proofs.lemmas.Option.{same_Some}

@@ -6,12 +6,12 @@ use Rattle.vm_facts.specs.declared.page.PageState.{PageState}
 use Rattle.vm_facts.specs.declared.page.PageState.TheVariants.{Unfilled, Valid, Invalid, Coming, Going, OnSwap}
 use Rattle.aout_image.specs.declared.Image.{Image}
 use Rattle.page_model.specs.Pages.{Slot, Zeros, SpacePages, no_slot, data_in, stack_in}
-use Rattle.flat_state.specs.PageNames.{same_page}
+use Rattle.page_model.specs.PageNames.{same_page}
 use Rattle.page_model.specs.Placement.{Placement, Due, Start, CopyOf, due_of_page, due_page, slots_of, slot_of, state_of, image_of, unfilled, new_pages}
 use Rattle.page_model.specs.Place.{child_slot, child_slot_by, copy_due, copies_from, fork_space, enter_space}
 use Rattle.page_model.specs.Conditions.{IsNew}
 use Rattle.page_model.specs.Dues.{HasSource, IsDue, DueStand}
-use Rattle.flat_state.proofs.PageNames.{same_page_is}
+use Rattle.page_model.proofs.PageNames.{same_page_is}
 use Rattle.page_laws.proofs.Lists.Local.{none_some}
 use Rattle.std.proofs.lemmas.Option.{same_Some}
 use Rattle.page_laws.proofs.Ownership.Changes.{Alike, child_blank, add_alike, added_same}

@@ -6,7 +6,7 @@ use Rattle.vm_facts.specs.declared.page.Page.TheVariants.{Data}
 use Rattle.vm_facts.specs.declared.page.PageState.{PageState}
 use Rattle.vm_facts.specs.declared.page.PageState.TheVariants.{Unfilled, Valid, Invalid, Coming, Going, OnSwap}
 use Rattle.page_model.specs.Pages.{frame_of}
-use Rattle.flat_state.specs.PageNames.{is_among, pages_from}
+use Rattle.page_model.specs.PageNames.{is_among, pages_from}
 use Rattle.page_model.specs.Frames.{next_frame, at_frame}
 use Rattle.vm_facts.specs.Lists.{times}
 use Rattle.page_model.specs.Placement.{Placement, Transfer, Part, Errand, Writes, state_of, mark_of, is_dirty, page_of, IsFrame, parts_of, flying}

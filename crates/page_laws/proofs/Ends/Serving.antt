@@ -11,7 +11,7 @@ use Rattle.vm_facts.specs.declared.page.Page.TheVariants.{Data, Stack, Text}
 use Rattle.vm_facts.specs.declared.page.PageState.{PageState}
 use Rattle.vm_facts.specs.declared.page.PageState.TheVariants.{Unfilled, Valid, Invalid, Coming, Going, OnSwap}
 use Rattle.page_model.specs.Pages.{Slot, Filling, Zeros, OfImage, frame_of, is_valid, written_mark}
-use Rattle.flat_state.specs.PageNames.{number_of, beside, pages_from, is_among, same_page}
+use Rattle.page_model.specs.PageNames.{number_of, beside, pages_from, is_among, same_page}
 use Rattle.vm_facts.specs.Lists.{times, without}
 use Rattle.page_model.specs.Placement.{Placement, Transfer, Part, Errand, Writes, Reads, Source, filling_by, slot_of, state_of, mark_of, filling_of, page_of, IsThere, parts_of, flying, put}
 use Rattle.page_model.specs.Moves.{evict, evict_at, fill_at, done, done_of, reclaim_to, arrived_mark, reclaim, taken_parts}
@@ -27,7 +27,7 @@ use Rattle.page_model.specs.Place.{filled}
 use Rattle.page_laws.proofs.Lists.Frames.{without_head, some_free}
 use Rattle.vm_facts.proofs.Lists.{times_head}
 use Rattle.page_laws.proofs.Lists.Pages.{page_cases, put_state, put_length, beside_self}
-use Rattle.flat_state.proofs.PageNames.{same_page_self}
+use Rattle.page_model.proofs.PageNames.{same_page_self}
 use Rattle.page_laws.proofs.Lists.Parts.{IsOpen, begin_open}
 use Rattle.page_laws.proofs.Lists.Local.{none_some}
 use Rattle.page_laws.proofs.Moves.Steps.{once_at, put_other_state, EvictRest, evict_rest}
@@ -190,7 +190,7 @@ get_all_comes (v ∷ qs) p source demanded q o c a latest l h =
     let latest2 = get_open_still p (Reads source demanded) v latest in
     elim (or_cases (same_page q v) (is_among q qs) h) [
       | inl e ↦ get_all_still qs (get_one p (Reads source demanded) v) source demanded q o2 c2 a.1 latest2
-          (subst (λ (x : Page). is_coming (state_of (get_one p (Reads source demanded) v) x) ≡ true) (sym (Rattle.flat_state.proofs.PageNames.same_page_is q v e))
+          (subst (λ (x : Page). is_coming (state_of (get_one p (Reads source demanded) v) x) ≡ true) (sym (Rattle.page_model.proofs.PageNames.same_page_is q v e))
           (get_comes p (Reads source demanded) v c.0 (omega arith)))
       | inr e ↦ get_all_comes qs (get_one p (Reads source demanded) v) source demanded q o2 c2 a.1 latest2 (let k = get_takes p (Reads source demanded) v o in omega arith) e
     ]

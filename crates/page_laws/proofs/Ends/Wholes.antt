@@ -2,7 +2,7 @@
 use Rattle.std.proofs.Common.{◌≡◌, ℕ, zero, suc, ◌+◌, ◌<◌, Bool, true, false, List, [], ◌∷◌, length, refl, sym, ◌∙◌, subst, arith}
 use Rattle.vm_facts.specs.declared.page.Page.{Page}
 use Rattle.page_model.specs.Pages.{is_valid}
-use Rattle.flat_state.specs.PageNames.{number_of}
+use Rattle.page_model.specs.PageNames.{number_of}
 use Rattle.page_model.specs.Placement.{Placement, slots_of, state_of, IsThere}
 use Rattle.page_model.specs.Runs.{pages_of_run, run_in}
 use Rattle.page_model.specs.Reading.{read_errand}

@@ -7,8 +7,8 @@ use Rattle.vm_facts.specs.declared.page.Page.{Page}
 use Rattle.vm_facts.specs.declared.page.Page.TheVariants.{Data, Stack, Text}
 use Rattle.vm_facts.specs.declared.page.PageState.{PageState}
 use Rattle.vm_facts.specs.declared.page.PageState.TheVariants.{Unfilled, Valid, Invalid, Coming, Going, OnSwap}
-use Rattle.flat_state.specs.declared.change.Change.{Change}
-use Rattle.flat_state.specs.declared.change.Change.TheVariants.{Resize, Fork, Exec, End}
+use Rattle.page_model.specs.Change.{Change}
+use Rattle.page_model.specs.Change.TheVariants.{Resize, Fork, Exec, End}
 use Rattle.page_model.specs.Pages.{Slot, no_slot, SpacePages, frame_of, numbered, changed, data_in, stack_in}
 use Rattle.page_model.specs.Placement.{Placement, space_number, slots_of, slot_of, state_of, image_of, sharers, put}
 use Rattle.page_model.specs.Moves.{drop_all, touch, touch_all, turn, listed, leave_by, leave_page, leave_all}

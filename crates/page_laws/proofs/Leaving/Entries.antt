@@ -6,7 +6,7 @@ use Rattle.vm_facts.specs.declared.page.PageState.{PageState}
 use Rattle.vm_facts.specs.declared.page.PageState.TheVariants.{Valid, Invalid, Coming}
 use Rattle.vm_facts.specs.declared.entry.Entry.{Entry}
 use Rattle.vm_facts.specs.declared.entry.Entry.TheVariants as entries
-use Rattle.flat_state.specs.PageNames.{number_of, pages_from}
+use Rattle.page_model.specs.PageNames.{number_of, pages_from}
 use Rattle.page_model.specs.Pages.{Slot, frame_of, left_state}
 use Rattle.vm_facts.specs.Lists.{times, without}
 use Rattle.page_model.specs.Placement.{Placement, Reads, Source, slot_of, state_of, mark_of, page_of}

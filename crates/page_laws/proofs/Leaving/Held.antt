@@ -7,7 +7,7 @@ use Rattle.vm_facts.specs.declared.page.PageState.{PageState}
 use Rattle.vm_facts.specs.declared.page.PageState.TheVariants.{Unfilled, Valid, Invalid, Coming, Going, OnSwap}
 use Rattle.vm_facts.specs.declared.entry.Entry.{Entry}
 use Rattle.vm_facts.specs.declared.entry.Entry.TheVariants as entries
-use Rattle.flat_state.specs.PageNames.{number_of, pages_from, is_among, same_page}
+use Rattle.page_model.specs.PageNames.{number_of, pages_from, is_among, same_page}
 use Rattle.page_model.specs.Pages.{Slot, frame_of, is_dirty_by, left_state, written_mark}
 use Rattle.vm_facts.specs.Lists.{times, without}
 use Rattle.page_model.specs.Placement.{Placement, Transfer, Part, Errand, Writes, Reads, Source, moving_state, slot_of, state_of, mark_of, is_dirty, page_of, parts_of}

@@ -6,8 +6,8 @@ use Rattle.page_model.specs.Owner.TheVariants as owners
 use Rattle.page_model.specs.Holdings.{Holdings, block_in}
 use Rattle.page_model.specs.Book.{IsBook, IsPlace, ArePlacesApart}
 use Rattle.page_model.proofs.PlaceLaws.{places_apart_of}
-use Rattle.flat_state.specs.PageNames.{number_of}
-use Rattle.flat_state.specs.declared.change.Change.{Change}
+use Rattle.page_model.specs.PageNames.{number_of}
+use Rattle.page_model.specs.Change.{Change}
 use Rattle.page_model.specs.Frames.{at_frame}
 use Rattle.page_model.specs.Placement.{Placement}
 use Rattle.page_model.specs.Place.{Changing, moved, place_change}

@@ -6,7 +6,7 @@ use Rattle.vm_facts.specs.declared.page.Page.{Page}
 use Rattle.vm_facts.specs.declared.page.Page.TheVariants.{Data, Stack, Text}
 use Rattle.vm_facts.specs.declared.page.PageState.{PageState}
 use Rattle.page_model.specs.Pages.{Slot, no_slot, change_slot, filling_behind, SpacePages, TextPages, numbered, changed, data_in, stack_in, text_in, with_data, with_stack, with_text}
-use Rattle.flat_state.specs.PageNames.{number_of, beside}
+use Rattle.page_model.specs.PageNames.{number_of, beside}
 use Rattle.page_model.specs.Placement.{Placement, slots_of, slot_of, state_of, mark_of, IsThere, put, space_number, image_number, sharers_in, sharers}
 
 -- Two pages are one, or not.

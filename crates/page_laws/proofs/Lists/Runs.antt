@@ -4,7 +4,7 @@ use Rattle.std.proofs.lemmas.Bool.{cases_eq}
 use Rattle.page_laws.proofs.Lists.Pages.{beside_self}
 use Rattle.vm_facts.specs.declared.page.Page.{Page}
 use Rattle.vm_facts.specs.declared.page.Page.TheVariants.{Data}
-use Rattle.flat_state.specs.PageNames.{number_of, beside, pages_from}
+use Rattle.page_model.specs.PageNames.{number_of, beside, pages_from}
 use Rattle.page_model.specs.Runs.{Run, pages_of_run, passing_above, passing_below, run_both, run_up, run_alone}
 use Rattle.page_model.specs.Conditions.{EachPage, AllApart}
 

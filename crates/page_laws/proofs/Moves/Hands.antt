@@ -4,11 +4,11 @@ use Rattle.std.proofs.lemmas.Bool.{cases_eq}
 use Rattle.std.proofs.lemmas.Bool.Decides.{nat_tests}
 use Rattle.vm_facts.proofs.Tests.{cases_le}
 use Rattle.vm_facts.specs.declared.page.Page.{Page}
-use Rattle.flat_state.specs.PageNames.{same_page, is_among}
+use Rattle.page_model.specs.PageNames.{same_page, is_among}
 use Rattle.page_model.specs.Frames.{next_frame}
 use Rattle.page_model.specs.Placement.{Placement}
 use Rattle.page_model.specs.Rank.{is_open, is_usable, reach, walk}
-use Rattle.flat_state.proofs.PageNames.{same_page_is}
+use Rattle.page_model.proofs.PageNames.{same_page_is}
 
 next_more : (n f : ℕ) → f < n → next_frame n f ≡ f + 1
 next_more n f l = grind (arith, nat_tests)

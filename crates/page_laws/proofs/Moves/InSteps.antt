@@ -5,7 +5,7 @@ use Rattle.vm_facts.specs.declared.page.Page.{Page}
 use Rattle.vm_facts.specs.declared.page.PageState.{PageState}
 use Rattle.vm_facts.specs.declared.page.PageState.TheVariants.{Unfilled, Valid, Invalid, Coming, Going, OnSwap}
 use Rattle.vm_facts.specs.Lists.{without}
-use Rattle.flat_state.specs.PageNames.{same_page}
+use Rattle.page_model.specs.PageNames.{same_page}
 use Rattle.page_model.specs.Placement.{Placement, Transfer, Part, Errand, Writes, Reads, state_of, mark_of, page_of}
 use Rattle.page_model.specs.Moves.{evict, evict_at, enter, turn, take_frame_at, take_frames, taken_parts, get_run, send, send_to, send_all, sent_part, sent_parts, launch_run, land, land_read, land_all, done, done_of}
 use Rattle.page_model.specs.Steps.{begin, join_last, get_at, get_all, launch_to, launch_all, land_then, land_all_then}

@@ -3,7 +3,7 @@ use Rattle.std.proofs.Common.{◌≡◌, ℕ, zero, suc, List, length, refl, ap,
 use Rattle.vm_facts.specs.declared.page.Page.{Page}
 use Rattle.vm_facts.specs.declared.entry.Entry.{Entry}
 use Rattle.vm_facts.specs.declared.entry.Entry.TheVariants as entries
-use Rattle.flat_state.specs.PageNames.{pages_from, number_of}
+use Rattle.page_model.specs.PageNames.{pages_from, number_of}
 use Rattle.page_model.specs.Placement.{Placement}
 use Rattle.page_model.specs.Moves.{get_run, done}
 use Rattle.page_model.specs.Hands.{hand_move, hand_moves}

@@ -4,7 +4,7 @@ use Rattle.vm_facts.specs.declared.page.Page.{Page}
 use Rattle.vm_facts.specs.declared.page.PageState.{PageState}
 use Rattle.vm_facts.specs.declared.page.PageState.TheVariants.{Unfilled, Valid, Invalid, Coming, Going, OnSwap}
 use Rattle.page_model.specs.Pages.{Slot, frame_of, is_valid, left_state, written_mark}
-use Rattle.flat_state.specs.PageNames.{number_of, beside, is_among, same_page}
+use Rattle.page_model.specs.PageNames.{number_of, beside, is_among, same_page}
 use Rattle.vm_facts.specs.Lists.{times}
 use Rattle.page_model.specs.Placement.{Placement, Transfer, Part, Errand, Writes, Reads, Source, state_of, mark_of, is_dirty, page_of, IsThere, moving_state, put}
 use Rattle.page_model.specs.Moves.{evict, evict_at, enter, fill, fill_at, done, reclaim, reclaim_to, retire_to, arrived_mark}

@@ -7,7 +7,7 @@ use Rattle.vm_facts.specs.declared.page.PageState.{PageState}
 use Rattle.vm_facts.specs.declared.page.PageState.TheVariants.{Unfilled, Valid, Invalid, Coming, Going, OnSwap}
 use Rattle.vm_facts.specs.declared.entry.Entry.{Entry}
 use Rattle.vm_facts.specs.declared.entry.Entry.TheVariants as entries
-use Rattle.flat_state.specs.PageNames.{beside, pages_from, number_of}
+use Rattle.page_model.specs.PageNames.{beside, pages_from, number_of}
 use Rattle.page_model.specs.Placement.{Placement, Transfer, Errand, Writes, state_of, is_dirty}
 use Rattle.page_model.specs.Moves.{fill, fill_at, get_run, launch_run, done, done_of, reclaim, reclaim_to, retire, retire_to, taken_parts, send, sent_part, sent_parts}
 use Rattle.page_model.specs.Runs.{run_in, run_in_by, run_out, spare_frames}

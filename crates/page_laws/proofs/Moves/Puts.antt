@@ -9,7 +9,7 @@ use Rattle.vm_facts.specs.declared.page.PageState.{PageState}
 use Rattle.vm_facts.specs.declared.page.PageState.TheVariants.{Unfilled, Valid, Invalid, Coming, Going, OnSwap}
 use Rattle.vm_facts.specs.declared.entry.Entry.{Entry}
 use Rattle.vm_facts.specs.declared.entry.Entry.TheVariants as entries
-use Rattle.flat_state.specs.PageNames.{number_of, same_page, is_among, pages_from}
+use Rattle.page_model.specs.PageNames.{number_of, same_page, is_among, pages_from}
 use Rattle.page_model.specs.Pages.{left_state, written_mark, frame_of}
 use Rattle.page_model.specs.Frames.{set_frame}
 use Rattle.page_model.specs.Placement.{Placement, Due, Transfer, Part, Errand, Writes, Reads, state_of, mark_of, is_dirty, page_of, put}

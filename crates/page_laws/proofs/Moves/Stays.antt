@@ -4,7 +4,7 @@ use Rattle.vm_facts.specs.declared.page.Page.{Page}
 use Rattle.vm_facts.specs.declared.page.PageState.{PageState}
 use Rattle.vm_facts.specs.declared.page.PageState.TheVariants.{Unfilled, Valid, Invalid, Coming, Going, OnSwap}
 use Rattle.page_model.specs.Pages.{frame_of, written_mark}
-use Rattle.flat_state.specs.PageNames.{is_among, same_page}
+use Rattle.page_model.specs.PageNames.{is_among, same_page}
 use Rattle.page_model.specs.Placement.{Placement, Transfer, Part, Errand, Writes, Reads, parts_of, slots_of, slot_of, state_of, mark_of, page_of, put, sharers}
 use Rattle.page_model.specs.Moves.{turn, launch_run, done, retire, retire_to, arrived_mark}
 use Rattle.page_model.specs.Steps.{land_then, land_read_then, land_all_then, begin, join_last, launch, launch_to, launch_all}

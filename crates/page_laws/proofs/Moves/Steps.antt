@@ -6,7 +6,7 @@ use Rattle.vm_facts.specs.declared.page.Page.TheVariants.{Data, Stack, Text}
 use Rattle.vm_facts.specs.declared.page.PageState.{PageState}
 use Rattle.vm_facts.specs.declared.page.PageState.TheVariants.{Unfilled, Valid, Invalid, Coming, Going, OnSwap}
 use Rattle.page_model.specs.Pages.{Slot, no_slot, frame_of, left_state}
-use Rattle.flat_state.specs.PageNames.{number_of}
+use Rattle.page_model.specs.PageNames.{number_of}
 use Rattle.page_model.specs.Frames.{at_frame}
 use Rattle.vm_facts.specs.Lists.{times, without}
 use Rattle.page_model.specs.Placement.{Placement, Transfer, Moving, Errand, Writes, Reads, slots_of, slot_of, state_of, mark_of, page_of, IsFrame, IsThere, parts_of, flying, moving_state, put}

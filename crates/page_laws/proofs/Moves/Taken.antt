@@ -5,7 +5,7 @@ use Rattle.vm_facts.specs.declared.page.Page.{Page}
 use Rattle.vm_facts.specs.declared.page.PageState.{PageState}
 use Rattle.vm_facts.specs.declared.page.PageState.TheVariants.{Invalid}
 use Rattle.vm_facts.specs.Lists.{times}
-use Rattle.flat_state.specs.PageNames.{is_among}
+use Rattle.page_model.specs.PageNames.{is_among}
 use Rattle.page_model.specs.Pages.{frame_of}
 use Rattle.page_model.specs.Placement.{Placement, state_of, is_dirty, page_of}
 use Rattle.page_model.specs.Moves.{launch_run, retire}

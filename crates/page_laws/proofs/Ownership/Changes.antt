@@ -9,7 +9,7 @@ use Rattle.vm_facts.specs.declared.page.PageState.{PageState}
 use Rattle.vm_facts.specs.declared.page.PageState.TheVariants.{Unfilled, Valid, Invalid, Coming, Going, OnSwap}
 use Rattle.aout_image.specs.declared.Image.{Image}
 use Rattle.page_model.specs.Pages.{Slot, no_slot, SpacePages, numbered, changed, data_in, stack_in}
-use Rattle.flat_state.specs.PageNames.{number_of, beside, pages_from}
+use Rattle.page_model.specs.PageNames.{number_of, beside, pages_from}
 use Rattle.page_model.specs.Placement.{Placement, Due, space_number, slots_of, slot_of, state_of, image_of, sharers, unfilled_data, new_pages}
 use Rattle.page_model.specs.Moves.{drop_all, touch, touch_all}
 use Rattle.page_model.specs.Place.{sized, cut_space, resize, data_count, stack_count, data_from, stack_from, child_slot, child_slot_by, fork_space, enter_space, remove_space, pages_of_space, pages_of_text, leave_text, leave_text_by, give_up, begin_residence, end_residence}

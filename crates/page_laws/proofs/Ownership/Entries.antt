@@ -4,14 +4,14 @@ use Rattle.vm_facts.specs.declared.page.Page.{Page}
 use Rattle.vm_facts.specs.declared.page.Page.TheVariants.{Data, Stack}
 use Rattle.vm_facts.specs.declared.entry.Entry.{Entry}
 use Rattle.vm_facts.specs.declared.entry.Entry.TheVariants as entries
-use Rattle.flat_state.specs.Flat.{FlatState, process_of}
-use Rattle.flat_state.specs.declared.change.Change.{Change}
-use Rattle.flat_state.specs.declared.change.Change.TheVariants.{Resize, Fork, Lend, Exec, End}
-use Rattle.flat_state.specs.PageNames.{number_of, pages_from}
+use Rattle.page_model.specs.Flat.{FlatState, process_of}
+use Rattle.page_model.specs.Change.{Change}
+use Rattle.page_model.specs.Change.TheVariants.{Resize, Fork, Lend, Exec, End}
+use Rattle.page_model.specs.PageNames.{number_of, pages_from}
 use Rattle.page_model.specs.Placement.{Placement, state_of}
 use Rattle.page_model.specs.Moves.{fill, touch_all}
 use Rattle.page_model.specs.Place.{Changing, changing_in, filled, moved, data_from, stack_from, data_count, stack_count, give_up_unless, enter_image, fork_space, place_change, place_entry, place_step, space_of_process, facts_numbered}
-use Rattle.flat_state.specs.Change.{is_borrower}
+use Rattle.page_model.specs.FlatStateChange.{is_borrower}
 use Rattle.page_model.specs.Reading.{source_for}
 use Rattle.page_model.specs.Conditions.{AtRest, AllAtRest, CanEnter, IsNew, IsSettled, LosesPages, CanPlace, CanChange}
 use Rattle.page_model.specs.Ownership.{OwnsFrames}

@@ -1,7 +1,7 @@
 -- A move of the hands keeps the ownership of frames.
 use Rattle.std.proofs.Common.{ℕ, zero, suc, ◌&&◌, not, List}
 use Rattle.vm_facts.specs.declared.page.Page.{Page}
-use Rattle.flat_state.specs.PageNames.{number_of, beside, is_among}
+use Rattle.page_model.specs.PageNames.{number_of, beside, is_among}
 use Rattle.page_model.specs.Placement.{Placement, mark_of, is_dirty}
 use Rattle.page_model.specs.Runs.{run_out, pages_of_run, goes_along, is_idle, is_near, most_written}
 use Rattle.page_model.specs.Hands.{expire, sweep, advance, hand_move, hand_moves}

@@ -163,7 +163,7 @@ expire_owner p locked o = go (page_of p p.front)
 
     go : (h : Option Page) → OwnsFrames (expire_of p locked h)
     go None = o
-    go (Some v) = at v (Rattle.flat_state.specs.PageNames.is_among v locked)
+    go (Some v) = at v (Rattle.page_model.specs.PageNames.is_among v locked)
 
 pub seated_frame : (p : Placement) (v : Page) (f : ℕ) → IsSeated p v f → frame_of (state_of p v) ≡ Some f
 seated_frame p v f c = elim c.state [

@@ -6,7 +6,7 @@ use Rattle.vm_facts.specs.declared.page.Page.TheVariants.{Data, Text}
 use Rattle.vm_facts.specs.declared.page.PageState.{PageState}
 use Rattle.vm_facts.specs.declared.page.PageState.TheVariants.{Unfilled, Valid, Invalid, Coming, Going, OnSwap}
 use Rattle.page_model.specs.Pages.{Slot, frame_of, written_mark, is_dirty_by}
-use Rattle.flat_state.specs.PageNames.{same_page}
+use Rattle.page_model.specs.PageNames.{same_page}
 use Rattle.vm_facts.specs.Lists.{times}
 use Rattle.page_model.specs.Placement.{Placement, Transfer, Part, Moving, Errand, Writes, Reads, Source, moving, state_of, mark_of, is_dirty, parts_of, flying, moving_state, put}
 use Rattle.page_model.specs.Moves.{evict, turn, get_run, launch_run, arrived_mark, done}

@@ -7,7 +7,7 @@ use Rattle.vm_facts.specs.declared.page.Page.TheVariants.{Data, Stack, Text}
 use Rattle.vm_facts.specs.declared.page.PageState.{PageState}
 use Rattle.vm_facts.specs.declared.page.PageState.TheVariants.{Unfilled, Valid, Invalid, Coming, Going, OnSwap}
 use Rattle.page_model.specs.Pages.{Slot, no_slot, frame_of, is_on_swap, is_unfilled}
-use Rattle.flat_state.specs.PageNames.{number_of, beside}
+use Rattle.page_model.specs.PageNames.{number_of, beside}
 use Rattle.page_model.specs.Placement.{Placement, slots_of, state_of, IsThere}
 use Rattle.page_model.specs.Runs.{pages_of_run, run_in, run_in_by, run_both, run_up, run_alone, comes_from_swap, comes_from_file, is_near, spare_frames}
 use Rattle.page_model.specs.Reading.{read_step, source_for}

@@ -6,7 +6,7 @@ use Rattle.vm_facts.specs.declared.page.Page.TheVariants.{Data, Stack, Text}
 use Rattle.vm_facts.specs.declared.page.PageState.{PageState}
 use Rattle.vm_facts.specs.declared.page.PageState.TheVariants.{Unfilled, Valid, Invalid, Coming, Going, OnSwap}
 use Rattle.page_model.specs.Pages.{Slot, no_slot, frame_of}
-use Rattle.flat_state.specs.PageNames.{number_of}
+use Rattle.page_model.specs.PageNames.{number_of}
 use Rattle.vm_facts.specs.Lists.{times}
 use Rattle.page_model.specs.Placement.{Placement, Transfer, slots_of, slot_of, state_of, mark_of, page_of, IsFrame, IsThere, parts_of, flying, put}
 use Rattle.page_model.specs.Moves.{turn, drop_at, drop_page, drop_all, leave_by, leave_page, leave_all, listed, listed_of}

@@ -6,7 +6,7 @@ use Rattle.vm_facts.specs.declared.page.Page.{Page}
 use Rattle.vm_facts.specs.declared.page.Page.TheVariants.{Data, Stack, Text}
 use Rattle.vm_facts.specs.declared.page.PageState.{PageState}
 use Rattle.vm_facts.specs.declared.page.PageState.TheVariants.{Unfilled, Valid, Invalid, Coming, Going, OnSwap}
-use Rattle.flat_state.specs.PageNames.{number_of, beside, is_among}
+use Rattle.page_model.specs.PageNames.{number_of, beside, is_among}
 use Rattle.page_model.specs.Pages.{is_on_swap, is_unfilled}
 use Rattle.vm_facts.specs.Lists.{times}
 use Rattle.page_model.specs.Placement.{Placement, slots_of, state_of, is_dirty}

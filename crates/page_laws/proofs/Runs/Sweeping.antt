@@ -4,7 +4,7 @@ use Rattle.std.proofs.lemmas.Bool.{cases_eq}
 use Rattle.vm_facts.specs.declared.page.Page.{Page}
 use Rattle.vm_facts.specs.declared.page.PageState.{PageState}
 use Rattle.vm_facts.specs.declared.page.PageState.TheVariants.{Unfilled, Valid, Invalid, Coming, Going, OnSwap}
-use Rattle.flat_state.specs.PageNames.{number_of, beside, is_among}
+use Rattle.page_model.specs.PageNames.{number_of, beside, is_among}
 use Rattle.page_model.specs.Pages.{Slot, frame_of, is_dirty_by}
 use Rattle.vm_facts.specs.Lists.{times}
 use Rattle.page_model.specs.Placement.{Placement, Writes, slot_of, state_of, mark_of, is_dirty, page_of}

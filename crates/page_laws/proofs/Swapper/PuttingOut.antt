@@ -9,7 +9,7 @@ use Rattle.vm_facts.specs.declared.page.PageState.TheVariants.{Unfilled, Valid, 
 use Rattle.vm_facts.specs.declared.entry.Entry.{Entry}
 use Rattle.vm_facts.specs.declared.entry.Entry.TheVariants as entries
 use Rattle.page_model.specs.Pages.{Slot, no_slot, frame_of, numbered, changed, written_mark}
-use Rattle.flat_state.specs.PageNames.{number_of, beside, pages_from, same_page}
+use Rattle.page_model.specs.PageNames.{number_of, beside, pages_from, same_page}
 use Rattle.vm_facts.specs.Lists.{times}
 use Rattle.page_model.specs.Placement.{Placement, Residence, Transfer, Part, Errand, Writes, Reads, slots_of, slot_of, state_of, mark_of, is_dirty, parts_of, image_of, sharers, put}
 use Rattle.page_model.specs.Moves.{turn, done, done_of, retire, retire_to, arrived_mark}

@@ -3,7 +3,7 @@ use Rattle.std.proofs.Common.{◌≡◌, ◌<◌, [], arith, None}
 use Rattle.std.proofs.lemmas.Result.{err_from_is_err_and}
 use Rattle.page_model.specs.Rank.{far}
 use Rattle.clock_hands.proofs.Forces.{none_free, falls_on, room_on, fits_on, forced_none, stops_here, forces_none, forces_one}
-use Rattle.machine_state.proofs.Transfers.{transfers_none, transfers_then}
+use Rattle.paging_units.proofs.Transfers.{transfers_none, transfers_then}
 use Rattle.clock_hands.proofs.forcing.force_frame.Goals as goal
 
 pub loop-m-init : goal.loop-m-init

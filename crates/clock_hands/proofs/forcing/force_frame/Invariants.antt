@@ -3,7 +3,7 @@ use Rattle.std.proofs.Common.{◌+◌, ◌<◌, ◌^◌, None}
 use Rattle.page_model.specs.Rank.{HasRoom, far}
 use Rattle.paging_units.specs.LastMoves.{last_moves}
 use Rattle.clock_hands.proofs.Forces.{ForcesSoFar}
-use Rattle.machine_state.specs.Outside.{TransfersPages, Asks}
+use Rattle.paging_units.specs.Outside.{TransfersPages, Asks}
 use Rattle.clock_hands.proofs.forcing.force_frame.Given as goal
 
 -- the next unit may be made, and the units so far and what is left force the frame

@@ -6,10 +6,10 @@ use Rattle.vm_facts.specs.declared.entry.Entry.{Entry}
 use Rattle.vm_facts.specs.declared.entry.Entry.TheVariants as entries
 use Rattle.vm_facts.specs.declared.stop.Stop.{Stop}
 use Rattle.page_model.specs.Serve.{force_entry}
-use Rattle.machine_state.specs.Machine.{Standing}
-use Rattle.machine_state.specs.Sourced.{files_named}
-use Rattle.machine_state.specs.Conditions.{KeepsFlat}
-use Rattle.machine_state.specs.Done.{KeepsThrough}
+use Rattle.paging_units.specs.Machine.{Standing}
+use Rattle.paging_units.specs.Sourced.{files_named}
+use Rattle.paging_units.specs.Conditions.{KeepsFlat}
+use Rattle.paging_units.specs.Done.{KeepsThrough}
 use Rattle.paging_units.specs.Made.{ground, MakesUnit}
 use Rattle.paging_units.specs.Stops.{StopsAt}
 use Rattle.paging_units.proofs.LastMoves.{counts_last}

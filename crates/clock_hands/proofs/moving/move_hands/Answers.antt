@@ -6,7 +6,7 @@ use Rattle.run_model.specs.Next.{move_unit}
 use Rattle.clock_hands.specs.Moved.{IsMoveOf}
 use Rattle.clock_hands.proofs.Moves.{stops_moving, move_flies, done_flies, move_last, done_last, moves_none, moves_one, moves_done, moves_all}
 use Rattle.clock_hands.proofs.moving.move_hands.Goals.{then-loop-left-test+else-wants_moves, else-loop-left-test}
-use Rattle.machine_state.proofs.Transfers.{transfers_none, transfers_then}
+use Rattle.paging_units.proofs.Transfers.{transfers_none, transfers_then}
 use Rattle.clock_hands.proofs.moving.move_hands.Goals as goal
 
 pub loop-left-init : goal.loop-left-init

@@ -2,7 +2,7 @@ use Rattle.io_edge.specs.WithFiles.{stores}
 use Rattle.std.proofs.Common.{◌+◌, ◌*◌, ◌<◌, ◌≤◌, ◌^◌, length, None}
 use Rattle.paging_units.specs.LastMoves.{last_moves}
 use Rattle.clock_hands.proofs.Moves.{MovesSoFar}
-use Rattle.machine_state.specs.Outside.{TransfersPages, Asks}
+use Rattle.paging_units.specs.Outside.{TransfersPages, Asks}
 use Rattle.clock_hands.proofs.moving.move_hands.Given as goal
 
 -- the next unit may be made, and the moves so far and those that are left are the whole

@@ -1,6 +1,6 @@
 use Rattle.io_edge.specs.WithFiles.{stores}
 use Rattle.std.proofs.Common.{◌<◌, length, true, subst, sym}
-use Rattle.machine_state.specs.Machine.{Standing}
+use Rattle.clock_hands.specs.Machine.{Standing}
 use Rattle.fault_fill.specs.Units.{NoneMade, IsAnswer}
 use Rattle.fault_fill.specs.declared.served.Served.TheVariants as served
 use Rattle.fault_fill.proofs.Serving.{flying_some}

@@ -1,6 +1,6 @@
 use Rattle.std.proofs.Common.{sym, ap, ◌∙◌}
 use Rattle.std.specs.Option.{option_copied}
-use Rattle.machine_state.specs.Machine.{proc_of_record}
+use Rattle.clock_hands.specs.Machine.{proc_of_record}
 use Rattle.fault_fill.proofs.Touching.{record_shown, not_there}
 use Rattle.fault_fill.proofs.touch.process.Goals as goal
 

@@ -4,7 +4,7 @@ use Rattle.kernel_model.specs.Kernel.{get_step}
 use Rattle.page_model.specs.Runs.{Run}
 use Rattle.page_model.specs.Placement.{state_of, filling_of}
 use Rattle.std.proofs.Common.{Some}
-use Rattle.machine_state.specs.Conditions.{CanBringIn}
+use Rattle.clock_hands.specs.Conditions.{CanBringIn}
 use Rattle.fault_fill.proofs.Readings.{can_read}
 use Rattle.fault_fill.proofs.Serving.{not_full, of_image, unit_reads}
 use Rattle.fault_fill.proofs.Leading.{get_calls, plain_either}

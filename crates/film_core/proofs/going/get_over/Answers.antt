@@ -1,7 +1,7 @@
 use Rattle.io_edge.specs.WithFiles.{stores}
 use Rattle.std.proofs.Common.{IfOk, IfErr, List, Option, sym, subst}
 use Rattle.io_edge.specs.FileHolding.{NamedFile}
-use Rattle.step_units.specs.Stepped.{AtSome, LeadsFrom, StopsFrom}
+use Rattle.vm_core.specs.Stepped.{AtSome, LeadsFrom, StopsFrom}
 use Rattle.vm_core.proofs.Noting.{stops_on, ok_weaker, stops_weaker}
 use Rattle.film_core.proofs.Getting.{under_fits, under_way, way_stops, settled_rest, gets_over, rest_stops_under}
 use Rattle.film_core.proofs.going.get_over.Goals as goal

@@ -1,7 +1,7 @@
 use Rattle.io_edge.specs.WithFiles.{stores}
 use Rattle.std.proofs.Common.{OnOk, IfErr, List, Option, sym, subst}
 use Rattle.io_edge.specs.FileHolding.{NamedFile}
-use Rattle.step_units.specs.Stepped.{AtSome, LeadsFrom, StopsFrom}
+use Rattle.vm_core.specs.Stepped.{AtSome, LeadsFrom, StopsFrom}
 use Rattle.vm_core.proofs.Noting.{stops_on, ok_so, stops_weaker}
 use Rattle.film_core.proofs.Getting.{going_under, leads_going, stops_going_on, going_past, going_wide, goes_over, stops_going}
 use Rattle.film_core.proofs.going.go_further.Goals as goal

@@ -1,8 +1,8 @@
 use Rattle.io_edge.specs.WithFiles.{stores}
 use Rattle.std.proofs.Common.{subst}
 use Rattle.vm_facts.specs.declared.stop.Stop.{Stop}
-use Rattle.step_units.specs.Sizes.{KeptAtStop}
-use Rattle.step_units.specs.Stepped.{StopsFrom}
+use Rattle.vm_core.specs.Sizes.{KeptAtStop}
+use Rattle.vm_core.specs.Stepped.{StopsFrom}
 use Rattle.film_core.proofs.Making.{widened_by, over_made, full_made, full_ready, other_stops}
 use Rattle.film_core.proofs.going.one_entry.Goals as goal
 use Rattle.film_core.specs.Ways.{GoesAt}

@@ -1,5 +1,5 @@
 use Rattle.io_edge.specs.WithFiles.{stores}
-use Rattle.step_units.specs.Stepped.{LeadsFrom, StopsFrom}
+use Rattle.vm_core.specs.Stepped.{LeadsFrom, StopsFrom}
 use Rattle.vm_core.proofs.Noting.{ok_so, stops_weaker}
 use Rattle.film_core.proofs.Passing.{none_passes, over_past, over_turn, leads_past, leads_turn, stops_past, stops_turn}
 use Rattle.film_core.proofs.going.pass.Goals as goal

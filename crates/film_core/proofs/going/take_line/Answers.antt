@@ -1,6 +1,6 @@
 use Rattle.io_edge.specs.WithFiles.{stores}
 use Rattle.std.proofs.Common.{◌+◌, arith}
-use Rattle.step_units.specs.Stepped.{LeadsFrom, StopsFrom}
+use Rattle.vm_core.specs.Stepped.{LeadsFrom, StopsFrom}
 use Rattle.vm_core.proofs.Noting.{stops_on, ok_so, stops_weaker}
 use Rattle.film_core.proofs.Passing.{some_there, line_round, line_passes, line_stops_passing, line_noting}
 use Rattle.film_core.proofs.going.take_line.Goals as goal

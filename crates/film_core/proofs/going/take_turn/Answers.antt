@@ -1,7 +1,7 @@
 use Rattle.io_edge.specs.WithFiles.{stores}
 use Rattle.vm_core.proofs.Noting.{stops_on, ok_so, stops_weaker}
 use Rattle.run_model.specs.declared.mark.Mark.TheVariants as marks
-use Rattle.step_units.specs.Stepped.{LeadsFrom, StopsFrom}
+use Rattle.vm_core.specs.Stepped.{LeadsFrom, StopsFrom}
 use Rattle.film_core.proofs.Passing.{turn_round, turn_passes, turn_stops_passing, turn_noting}
 use Rattle.film_core.proofs.going.take_turn.Goals as goal
 use Rattle.film_core.specs.Ways.{OverBeforeTurn, RunsOut, RoundAt}

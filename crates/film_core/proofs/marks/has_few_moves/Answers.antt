@@ -1,7 +1,7 @@
 use Rattle.std.proofs.Common.{◌≡◌, ◌≤◌, ◌∙◌, true, refl, subst, sym, arith}
 use Rattle.std.proofs.lemmas.Bool.Decides.{nat_tests}
-use Rattle.swapper.specs.Spans.{moves}
-use Rattle.run_units.specs.LastMoves.{last_moves}
+use Rattle.page_laws.specs.Spans.{moves}
+use Rattle.vm_core.specs.LastMoves.{last_moves}
 use Rattle.film_core.proofs.Longer.{last_got, last_is, last_none}
 use Rattle.film_core.proofs.marks.has_few_moves.Goals as goal
 

@@ -2,11 +2,11 @@ use Rattle.io_edge.specs.WithFiles.{stores}
 use Rattle.vm_facts.specs.declared.entry.Entry.TheVariants as entries
 use Rattle.run_model.specs.declared.mark.Mark.TheVariants as marks
 use Rattle.machine_state.proofs.Besides.{in_beside, asks_beside}
-use Rattle.swapper.proofs.PutUnits.{in_stops_beside}
-use Rattle.step_units.proofs.Finding.{may_come}
-use Rattle.step_units.specs.Sizes.{KeptAtStop}
-use Rattle.step_units.specs.Stepped.{StopsFrom}
-use Rattle.step_units.proofs.StopsKeep.{kept_at}
+use Rattle.vm_core.proofs.PutUnits.{in_stops_beside}
+use Rattle.vm_core.proofs.Finding.{may_come}
+use Rattle.vm_core.specs.Sizes.{KeptAtStop}
+use Rattle.vm_core.specs.Stepped.{StopsFrom}
+use Rattle.vm_core.proofs.StopsKeep.{kept_at}
 use Rattle.vm_core.proofs.Noting.{stops_on}
 use Rattle.vm_core.proofs.Steadying.{in_steady}
 use Rattle.film_core.proofs.RestsMade.{bring_rests, bring_stops, steady_stays}

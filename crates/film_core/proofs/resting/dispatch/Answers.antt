@@ -1,7 +1,7 @@
 use Rattle.io_edge.specs.WithFiles.{stores}
 use Rattle.std.proofs.Common.{false}
 use Rattle.run_model.specs.declared.mark.Mark.TheVariants as marks
-use Rattle.step_units.specs.Stepped.{LeadsFrom, StopsFrom}
+use Rattle.vm_core.specs.Stepped.{LeadsFrom, StopsFrom}
 use Rattle.vm_core.specs.Running.{CountsTo, UnderMark, RunLeads}
 use Rattle.vm_core.proofs.Noting.{ok_weaker, stops_weaker}
 use Rattle.film_core.specs.Ways.{StaysOn, RestAt, RestDone}

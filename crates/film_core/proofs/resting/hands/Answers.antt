@@ -1,8 +1,8 @@
 use Rattle.io_edge.specs.WithFiles.{stores}
 use Rattle.std.proofs.Common.{arith}
 use Rattle.run_model.specs.declared.mark.Mark.TheVariants as marks
-use Rattle.step_units.specs.Sizes.{KeptAtStop}
-use Rattle.step_units.specs.Stepped.{StopsFrom}
+use Rattle.vm_core.specs.Sizes.{KeptAtStop}
+use Rattle.vm_core.specs.Stepped.{StopsFrom}
 use Rattle.vm_core.proofs.Kept.{kept_moving}
 use Rattle.vm_core.proofs.Noting.{stops_on}
 use Rattle.film_core.proofs.RestsMade.{hands_rest, hands_stops, hands_stay, hands_fit}

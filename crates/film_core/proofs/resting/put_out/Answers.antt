@@ -1,9 +1,9 @@
 use Rattle.io_edge.specs.WithFiles.{stores}
 use Rattle.run_model.specs.declared.mark.Mark.TheVariants as marks
-use Rattle.step_units.proofs.Finding.{put_out_in}
-use Rattle.step_units.specs.Sizes.{KeptAtStop}
-use Rattle.swapper.specs.declared.Turned.TheVariants as turns
-use Rattle.step_units.specs.Stepped.{StopsFrom}
+use Rattle.vm_core.proofs.Finding.{put_out_in}
+use Rattle.vm_core.specs.Sizes.{KeptAtStop}
+use Rattle.vm_core.specs.Turned.TheVariants as turns
+use Rattle.vm_core.specs.Stepped.{StopsFrom}
 use Rattle.vm_core.proofs.Asked.{swapper_steady}
 use Rattle.vm_core.proofs.Kept.{kept_turning}
 use Rattle.vm_core.proofs.Noting.{stops_on}

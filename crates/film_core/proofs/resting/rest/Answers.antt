@@ -1,7 +1,7 @@
 use Rattle.io_edge.specs.WithFiles.{stores}
 use Rattle.std.proofs.Common.{sym, subst}
 use Rattle.run_model.specs.declared.mark.Mark.{Mark}
-use Rattle.step_units.specs.Stepped.{LeadsFrom}
+use Rattle.vm_core.specs.Stepped.{LeadsFrom}
 use Rattle.film_core.proofs.RestsMade.{over_rests}
 use Rattle.film_core.proofs.resting.rest.Goals as goal
 use Rattle.film_core.specs.Ways.{RestAt, RestDone}

@@ -1,7 +1,7 @@
 use Rattle.io_edge.specs.WithFiles.{stores}
 use Rattle.std.proofs.Common.{◌<◌, IfOk, IfErr, inl, inr, sym, ◌∙◌, subst, arith}
 use Rattle.run_model.specs.declared.mark.Mark.TheVariants as marks
-use Rattle.step_units.specs.Stepped.{LeadsFrom, StopsFrom}
+use Rattle.vm_core.specs.Stepped.{LeadsFrom, StopsFrom}
 use Rattle.vm_core.proofs.Noting.{ok_weaker, stops_on, stops_weaker}
 use Rattle.film_core.proofs.RestsMade.{turn_spent, turn_rests, turn_coming_stops, turn_stops}
 use Rattle.film_core.proofs.resting.turn.Goals as goal

@@ -1,6 +1,6 @@
 use Rattle.io_edge.specs.WithFiles.{stores}
 use Rattle.run_model.specs.declared.mark.Mark.TheVariants as marks
-use Rattle.step_units.specs.Stepped.{StopsFrom}
+use Rattle.vm_core.specs.Stepped.{StopsFrom}
 use Rattle.vm_core.proofs.Noting.{stops_on}
 use Rattle.film_core.proofs.RestsMade.{wait_rests, wait_stops, steady_stays}
 use Rattle.film_core.proofs.resting.wait.Goals as goal

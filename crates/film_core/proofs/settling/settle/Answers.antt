@@ -1,8 +1,8 @@
 use Rattle.io_edge.specs.WithFiles.{stores}
 use Rattle.std.proofs.Common.{sym, ap, ◌∙◌, subst}
 use Rattle.std.proofs.lemmas.Result.{err_from_is_err_and}
-use Rattle.step_units.specs.Rests.{before_done}
-use Rattle.step_units.specs.Stepped.{AtSome, LeadsFrom, StopsFrom, StepLeads}
+use Rattle.vm_core.specs.StepUnitsRests.{before_done}
+use Rattle.vm_core.specs.Stepped.{AtSome, LeadsFrom, StopsFrom, StepLeads}
 use Rattle.vm_core.specs.Rests.{begun_by, BegunAt}
 use Rattle.film_core.proofs.Settled.{fills_settle, finish_settles, finish_stops, finish_begun}
 use Rattle.film_core.proofs.settling.settle.Goals as goal

@@ -1,5 +1,5 @@
 use Rattle.std.proofs.Common.{sym, ◌∙◌, arith}
-use Rattle.paging_units.proofs.LastMoves.{counts_last}
+use Rattle.swapper.proofs.LastMoves.{counts_last}
 use Rattle.move_judge.proofs.HandsMove.{can_hand}
 use Rattle.move_judge.proofs.hands.judge_hand.Goals as goal
 

@@ -6,8 +6,8 @@ use Rattle.machine_state.specs.Going.{CanGoOn}
 use Rattle.machine_state.specs.Machine.{Standing}
 use Rattle.machine_state.specs.Sourced.{ImageNamed}
 use Rattle.kernel_model.specs.ChangeStep.{space_of_life}
-use Rattle.fault_fill.specs.Growth.{space_of_pid}
-use Rattle.call_reads.specs.Reading.{AreNamed}
+use Rattle.step_units.specs.Growth.{space_of_pid}
+use Rattle.step_units.specs.Reading.{AreNamed}
 use Rattle.proc_run.specs.Shown.{shown_in}
 use Rattle.proc_run.proofs.reading.read_call.Goals as goal
 

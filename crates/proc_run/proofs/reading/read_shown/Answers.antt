@@ -1,5 +1,5 @@
 use Rattle.std.proofs.Common.{refl}
-use Rattle.call_reads.proofs.Images.{shown_by, all_fit, few_shown}
+use Rattle.step_units.proofs.Images.{shown_by, all_fit, few_shown}
 use Rattle.proc_run.proofs.reading.read_shown.Goals as goal
 
 pub read_by_call-requires-clause-few : goal.read_by_call-requires-clause-few

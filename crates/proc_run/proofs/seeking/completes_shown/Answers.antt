@@ -5,7 +5,7 @@ use Rattle.user_vax.specs.Instruction.{instruction, answer_of}
 use Rattle.user_vax.specs.declared.stepped.Stepped.TheVariants as steps
 use Rattle.kernel_model.specs.ChangeStep.{space_of_life}
 use Rattle.machine_state.specs.Machine.{Standing}
-use Rattle.fault_fill.specs.Growth.{space_of_pid}
+use Rattle.step_units.specs.Growth.{space_of_pid}
 use Rattle.proc_run.specs.Shown.{shown_in}
 use Rattle.proc_run.proofs.seeking.completes_shown.Goals as goal
 

@@ -1,8 +1,8 @@
 use Rattle.std.proofs.Common.{◌≡◌, sym, ap, subst}
 use Rattle.std.specs.Prelude.{IfOk}
 use Rattle.machine_state.specs.Machine.{Standing}
-use Rattle.fault_fill.specs.Growth.{space_of_pid}
-use Rattle.call_reads.specs.Reading.{AreNamed}
+use Rattle.step_units.specs.Growth.{space_of_pid}
+use Rattle.step_units.specs.Reading.{AreNamed}
 use Rattle.proc_run.specs.Shown.{shown_in}
 use Rattle.proc_run.specs.Missed.{first_missed}
 use Rattle.proc_run.proofs.Calls.{done_missed}

@@ -1,7 +1,7 @@
 use Rattle.std.proofs.Common.{sym, ap, ◌∙◌}
 use Rattle.proc_run.specs.Shown.{shown_in}
 use Rattle.proc_run.specs.Missed.{missed_by_call}
-use Rattle.fault_fill.specs.Growth.{space_of_pid}
+use Rattle.step_units.specs.Growth.{space_of_pid}
 use Rattle.proc_run.proofs.Calls.{one_call}
 use Rattle.proc_run.proofs.touching.missed_by_call.Goals as goal
 

@@ -3,7 +3,7 @@ use Rattle.std.proofs.lemmas.List.{nil_from_length}
 use Rattle.vm_facts.specs.declared.page.Page.{Page}
 use Rattle.user_vax.specs.Operands.{register}
 use Rattle.machine_state.specs.Machine.{Standing}
-use Rattle.fault_fill.specs.Growth.{space_of_pid}
+use Rattle.step_units.specs.Growth.{space_of_pid}
 use Rattle.proc_run.specs.Shown.{shown_in}
 use Rattle.proc_run.specs.Missed.{first_missed, page_missed}
 use Rattle.proc_run.proofs.Beginning.{first_page}

@@ -7,8 +7,8 @@ use Rattle.command_edge.specs.Named.{AnswersNamed}
 use Rattle.command_edge.specs.Command.{Faults, EndCounted, Made}
 use Rattle.command_edge.proofs.Counting.{none_then, counted_then}
 use Rattle.run_opening.proofs.Lists.{few_started}
-use Rattle.replay_command.specs.Reading.{images_told}
-use Rattle.replay_command.proofs.Replays.{images_counted}
+use Rattle.reference_commands.specs.ReplayCommandReading.{images_told}
+use Rattle.reference_commands.proofs.Replays.{images_counted}
 use Rattle.reference_commands.specs.Reading.{read_told}
 use Rattle.reference_commands.specs.Asking.{Subject}
 use Rattle.reference_commands.specs.Ends.{EndsQuestion}

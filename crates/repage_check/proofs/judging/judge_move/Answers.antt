@@ -2,7 +2,7 @@ use Rattle.std.proofs.Common.{◌≡◌, None, length, sym, ◌∙◌}
 use Rattle.vm_facts.specs.declared.entry.Entry.TheVariants as entries
 use Rattle.flat_state.specs.Journal.{append}
 use Rattle.paged_model.specs.Moves.{hand_reason}
-use Rattle.move_judge.specs.Over.{JudgedOver}
+use Rattle.step_judge.specs.Over.{JudgedOver}
 use Rattle.step_judge.specs.Told.{GoesOnWith}
 use Rattle.repage_check.proofs.Judgings.{begun_hands}
 use Rattle.repage_check.proofs.Told.{none_begun, move_call, or_told}

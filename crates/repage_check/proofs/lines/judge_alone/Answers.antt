@@ -1,6 +1,6 @@
 use Rattle.std.proofs.Common.{◌≡◌, [], None, sym, ◌∙◌}
 use Rattle.std.proofs.lemmas.Result.{IfOk-weaker}
-use Rattle.move_judge.specs.PartJudged.{JudgedPart}
+use Rattle.step_judge.specs.PartJudged.{JudgedPart}
 use Rattle.paged_model.specs.declared.line.Line.TheVariants as lines
 use Rattle.paged_model.specs.Parts.{part_reason}
 use Rattle.repage_check.specs.Lines.{LineTold, GoesBy}

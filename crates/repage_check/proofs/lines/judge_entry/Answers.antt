@@ -6,7 +6,7 @@ use Rattle.vm_facts.specs.declared.entry.Entry.{Entry}
 use Rattle.vm_facts.specs.declared.entry.Entry.TheVariants as entries
 use Rattle.flat_state.specs.Journal.{repeated, units_with}
 use Rattle.page_laws.specs.Spans.{moves}
-use Rattle.paging_units.specs.LastMoves.{last_moves}
+use Rattle.vm_core.specs.LastMoves.{last_moves}
 use Rattle.vm_core.specs.Stepped.{LeadsFrom}
 use Rattle.repage_check.specs.Past.{lines_next, PastAt}
 use Rattle.repage_check.specs.Lines.{UnitsTold, GoesBy}

@@ -1,7 +1,7 @@
 use Rattle.std.proofs.Common.{◌≡◌, ◌+◌, ◌≤◌, None, sym, subst}
 use Rattle.std.specs.Prelude.{IfOk}
 use Rattle.io_edge.specs.WithFiles.{stores}
-use Rattle.paging_units.specs.LastMoves.{last_moves}
+use Rattle.vm_core.specs.LastMoves.{last_moves}
 use Rattle.vm_core.specs.Stepped.{LeadsFrom}
 use Rattle.paged_model.specs.declared.line.Line.{Line}
 use Rattle.paged_model.specs.declared.line.Line.TheVariants as lines

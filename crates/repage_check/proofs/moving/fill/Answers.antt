@@ -1,7 +1,7 @@
 use Rattle.std.proofs.Common.{◌≡◌, sym, subst}
 use Rattle.std.specs.Prelude.{IfOk}
 use Rattle.vm_facts.specs.declared.entry.Entry.{Entry}
-use Rattle.move_judge.specs.Judged.{Judged}
+use Rattle.step_judge.specs.Judged.{Judged}
 use Rattle.repage_check.specs.Units.{fill_reason}
 use Rattle.repage_check.proofs.moving.fill.Goals as goal
 

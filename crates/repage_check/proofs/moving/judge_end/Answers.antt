@@ -2,7 +2,7 @@ use Rattle.io_edge.specs.WithFiles.{stores}
 use Rattle.std.proofs.Common.{◌≡◌, None}
 use Rattle.vm_facts.specs.declared.entry.Entry.TheVariants as entries
 use Rattle.paged_model.specs.Moves.{done_reason}
-use Rattle.move_judge.specs.Judged.{JudgedThrough}
+use Rattle.step_judge.specs.Judged.{JudgedThrough}
 use Rattle.step_judge.specs.Told.{GoesOnWith}
 use Rattle.repage_check.proofs.Told.{or_told}
 use Rattle.repage_check.proofs.Goes.{end_on}

@@ -1,5 +1,5 @@
 use Rattle.std.proofs.Common.{◌≡◌, None}
-use Rattle.move_judge.specs.Judged.{Judged}
+use Rattle.step_judge.specs.Judged.{Judged}
 use Rattle.step_judge.specs.Told.{GoesOnWith}
 use Rattle.repage_check.specs.Units.{fill_reason}
 use Rattle.repage_check.proofs.Told.{or_told}

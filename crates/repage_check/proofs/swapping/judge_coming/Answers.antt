@@ -1,6 +1,6 @@
 use Rattle.std.proofs.Common.{◌≡◌, None}
 use Rattle.paged_model.specs.Leaving.{in_reason}
-use Rattle.move_judge.specs.Leaving.{JudgedIn}
+use Rattle.step_judge.specs.Leaving.{JudgedIn}
 use Rattle.step_judge.specs.Told.{GoesOnWith}
 use Rattle.repage_check.proofs.Told.{or_told}
 use Rattle.repage_check.proofs.Goes.{in_on}

@@ -1,6 +1,6 @@
 use Rattle.std.proofs.Common.{◌≡◌, None}
 use Rattle.paged_model.specs.Leaving.{out_reason}
-use Rattle.move_judge.specs.Leaving.{JudgedOut}
+use Rattle.step_judge.specs.Leaving.{JudgedOut}
 use Rattle.step_judge.specs.Told.{GoesOnWith}
 use Rattle.repage_check.proofs.Told.{or_told}
 use Rattle.repage_check.proofs.Goes.{out_on}

@@ -1,8 +1,8 @@
 use Rattle.io_edge.specs.WithFiles.{stores}
 use Rattle.std.proofs.Common.{◌+◌, false, subst}
 use Rattle.vm_facts.specs.declared.stop.Stop.{Stop}
-use Rattle.step_units.specs.Sizes.{KeptAtStop}
-use Rattle.step_units.specs.Stepped.{StopsFrom}
+use Rattle.proc_run.specs.Sizes.{KeptAtStop}
+use Rattle.proc_run.specs.Stepped.{StopsFrom}
 use Rattle.proc_run.specs.Running.{UnderMark}
 use Rattle.step_judge.proofs.Makings.{counts_on, act_made, full_act_made, full_act_on}
 use Rattle.step_judge.proofs.making.make_act.Goals as goal

@@ -2,8 +2,8 @@ use Rattle.io_edge.specs.WithFiles.{stores}
 use Rattle.std.proofs.Common.{subst}
 use Rattle.vm_facts.specs.declared.stop.Stop.{Stop}
 use Rattle.flat_state.specs.Journal.{instructions_of}
-use Rattle.step_units.specs.Sizes.{KeptAtStop}
-use Rattle.step_units.specs.Stepped.{StopsFrom}
+use Rattle.proc_run.specs.Sizes.{KeptAtStop}
+use Rattle.proc_run.specs.Stepped.{StopsFrom}
 use Rattle.proc_run.specs.Rests.{BegunAt}
 use Rattle.step_judge.proofs.Makings.{some_begun_there, counts_on, rest_made, full_rest_made, full_rest_on}
 use Rattle.step_judge.proofs.making.make_rest.Goals as goal

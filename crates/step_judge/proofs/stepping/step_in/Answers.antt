@@ -1,7 +1,7 @@
 use Rattle.io_edge.specs.WithFiles.{stores}
 use Rattle.std.proofs.Common.{Option, sym, subst}
 use Rattle.std.specs.Prelude.{IfOk}
-use Rattle.step_units.specs.Stepped.{AtSome, LeadsFrom}
+use Rattle.proc_run.specs.Stepped.{AtSome, LeadsFrom}
 use Rattle.proc_run.specs.declared.finishing.Begun.{Begun}
 use Rattle.step_judge.specs.At.{ReadyAt}
 use Rattle.step_judge.specs.Told.{LeftTold}

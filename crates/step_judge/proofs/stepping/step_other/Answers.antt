@@ -4,7 +4,7 @@ use Rattle.std.specs.Prelude.{IfOk}
 use Rattle.user_vax.specs.Program.{run}
 use Rattle.user_vax.specs.Instruction.{instruction, answer_of}
 use Rattle.machine_state.specs.Machine.{Standing}
-use Rattle.step_units.specs.Stepped.{AtSome, LeadsFrom}
+use Rattle.proc_run.specs.Stepped.{AtSome, LeadsFrom}
 use Rattle.proc_run.specs.Calls.{own_answers}
 use Rattle.step_judge.specs.At.{ReadyAt}
 use Rattle.step_judge.specs.Told.{LeftTold, GoesOnWith}

@@ -1,10 +1,10 @@
 use Rattle.io_edge.specs.WithFiles.{stores}
 use Rattle.std.proofs.Common.{◌≡◌, ◌+◌, ◌<◌, ◌≤◌, false, true, length, None, Some, sym, ◌∙◌, arith}
 use Rattle.flat_state.specs.Journal.{instructions_of}
-use Rattle.step_units.specs.Callers.{regs_of}
-use Rattle.step_units.specs.LastMoves.{last_moves}
-use Rattle.step_units.specs.Ready.{Continues}
-use Rattle.step_units.proofs.Journals.{last_counts_few}
+use Rattle.proc_run.specs.Callers.{regs_of}
+use Rattle.proc_run.specs.LastMoves.{last_moves}
+use Rattle.proc_run.specs.Ready.{Continues}
+use Rattle.proc_run.proofs.Journals.{last_counts_few}
 use Rattle.proc_run.specs.Runs.{IsSteady}
 use Rattle.proc_run.proofs.Attempts.{RoomOnly, room_kernel, room_lends}
 use Rattle.proc_run.proofs.Tried.{journal_same, lends_still, ran_goes_on}

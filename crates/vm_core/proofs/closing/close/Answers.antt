@@ -3,9 +3,9 @@ use Rattle.std.proofs.Common.{◌∙◌, subst, refl, arith, None}
 use Rattle.vm_core.proofs.Noting.{stops_on}
 use Rattle.vm_core.proofs.Closings.{closing_starts, closing_on, closing_stops, closing_ends}
 use Rattle.machine_state.proofs.Transfers.{transfers_none, transfers_then}
-use Rattle.step_units.specs.Sizes.{KeptAtStop}
-use Rattle.step_units.specs.Stepped.{LeadsFrom, StopsFrom}
-use Rattle.step_units.proofs.StopsKeep.{kept_through}
+use Rattle.proc_run.specs.Sizes.{KeptAtStop}
+use Rattle.proc_run.specs.Stepped.{LeadsFrom, StopsFrom}
+use Rattle.proc_run.proofs.StopsKeep.{kept_through}
 use Rattle.vm_core.proofs.closing.close.Goals as goal
 use Rattle.vm_core.specs.Closing.{DueTurn, TurnHad, LinesAre}
 

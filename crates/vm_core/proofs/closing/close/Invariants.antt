@@ -3,7 +3,7 @@ use Rattle.std.proofs.Common.{◌≡◌, ◌≤◌, ◌+◌, ◌-◌, ◌*◌, N
 use Rattle.flat_state.specs.Journal.{instructions_of}
 use Rattle.proc_run.specs.Runs.{IsSteady}
 use Rattle.machine_state.specs.Outside.{TransfersPages}
-use Rattle.step_units.specs.Stepped.{LeadsFrom}
+use Rattle.proc_run.specs.Stepped.{LeadsFrom}
 use Rattle.vm_core.proofs.closing.close.Given as goal
 use Rattle.vm_core.specs.Closing.{Closing, LinesAre}
 

@@ -2,14 +2,14 @@ use Rattle.io_edge.specs.WithFiles.{stores}
 use Rattle.std.proofs.Common.{ℕ}
 use Rattle.vm_facts.specs.declared.entry.Entry.TheVariants as entries
 use Rattle.machine_state.proofs.Besides.{in_beside, asks_beside}
-use Rattle.swapper.proofs.PutUnits.{in_stops_beside}
+use Rattle.proc_run.proofs.PutUnits.{in_stops_beside}
 use Rattle.vm_core.proofs.Noting.{stops_on}
 use Rattle.vm_core.proofs.Steadying.{in_steady}
 use Rattle.vm_core.proofs.Outs.{held_in}
 use Rattle.vm_core.proofs.Turns.{in_already, in_comes, in_stops}
-use Rattle.step_units.specs.Sizes.{KeptAtStop}
-use Rattle.step_units.specs.Stepped.{StopsFrom}
-use Rattle.step_units.proofs.StopsKeep.{kept_at}
+use Rattle.proc_run.specs.Sizes.{KeptAtStop}
+use Rattle.proc_run.specs.Stepped.{StopsFrom}
+use Rattle.proc_run.proofs.StopsKeep.{kept_at}
 use Rattle.vm_core.proofs.closing.come_in.Goals as goal
 use Rattle.vm_core.specs.Closing.{TurnAt}
 

@@ -3,9 +3,9 @@ use Rattle.std.proofs.Common.{IfOk, IfErr, ◌∙◌, subst, arith}
 use Rattle.proc_run.specs.Running.{CountsTo}
 use Rattle.vm_core.proofs.Noting.{stops_on, stops_weaker, ok_two}
 use Rattle.vm_core.proofs.Turns.{has_turn, turn_noting_stops, turn_coming_stops, turn_finish_stops}
-use Rattle.step_units.specs.Sizes.{KeptAtStop}
-use Rattle.step_units.specs.Stepped.{LeadsFrom, StopsFrom}
-use Rattle.step_units.proofs.StopsKeep.{kept_through}
+use Rattle.proc_run.specs.Sizes.{KeptAtStop}
+use Rattle.proc_run.specs.Stepped.{LeadsFrom, StopsFrom}
+use Rattle.proc_run.proofs.StopsKeep.{kept_through}
 use Rattle.vm_core.proofs.closing.turn.Goals as goal
 use Rattle.vm_core.specs.Closing.{ResidentTurn, DueTurn, TurnDone, TurnHad}
 

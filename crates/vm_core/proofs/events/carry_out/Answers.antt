@@ -1,7 +1,7 @@
 use Rattle.io_edge.specs.WithFiles.{stores}
 use Rattle.vm_facts.specs.declared.event.Event.{Event}
 use Rattle.vm_facts.specs.declared.event.Event.TheVariants as events
-use Rattle.step_units.specs.Stepped.{LeadsFrom}
+use Rattle.proc_run.specs.Stepped.{LeadsFrom}
 use Rattle.std.proofs.Common.{sym, subst}
 use Rattle.vm_core.proofs.Taking.{makes_carries}
 use Rattle.vm_core.proofs.events.carry_out.Goals as goal

@@ -3,7 +3,7 @@ use Rattle.std.proofs.Common.{◌∙◌, sym, arith, None}
 use Rattle.std.proofs.lemmas.Result.{err_from_is_err_and}
 use Rattle.machine_state.proofs.Transfers.{transfers_none, transfers_then}
 use Rattle.machine_state.proofs.Backing.{backed_on}
-use Rattle.step_units.specs.Ready.{RunsDue}
+use Rattle.proc_run.specs.Ready.{RunsDue}
 use Rattle.vm_core.specs.Filling.{due_of, IsDueFirst}
 use Rattle.vm_core.proofs.Filled.{first_of, none_due, fewer, room_one, due_filled, filled_none, filled_one, filled_all, filled_goes_on, filled_stops, filled_kept}
 use Rattle.vm_core.proofs.filling.fill_rest.Goals as goal

@@ -4,7 +4,7 @@ use Rattle.std.proofs.lemmas.Result.{err_from_is_err_and}
 use Rattle.vm_core.proofs.StartGoesOn.{new_frames, goes_on}
 use Rattle.vm_core.proofs.Led.{all_began, start_leads, start_stops, begin_stops}
 use Rattle.vm_core.proofs.Placing.{answers_as}
-use Rattle.step_units.proofs.StopsKeep.{kept_through, never_full}
+use Rattle.proc_run.proofs.StopsKeep.{kept_through, never_full}
 use Rattle.vm_core.proofs.first_processes.start.Goals as goal
 
 pub fill_rest-requires-clause-frames : goal.fill_rest-requires-clause-frames

@@ -3,8 +3,8 @@ use Rattle.std.proofs.lemmas.Result.{on_ok_weaker}
 use Rattle.vm_facts.specs.declared.entry.Entry.{Entry}
 use Rattle.vm_facts.specs.declared.event.Event.TheVariants as events
 use Rattle.kernel_model.specs.Kernel.{note_step}
-use Rattle.swapper.specs.Stops.{StopsBefore}
-use Rattle.step_units.specs.Stepped.{StopsFrom}
+use Rattle.proc_run.specs.Stops.{StopsBefore}
+use Rattle.proc_run.specs.Stepped.{StopsFrom}
 use Rattle.vm_core.proofs.Noting.{stops_weaker}
 use Rattle.vm_core.proofs.Asked.{audit_makes, audit_halts}
 use Rattle.vm_core.proofs.lines.audit.Goals as goal

@@ -2,8 +2,8 @@ use Rattle.io_edge.specs.WithFiles.{stores}
 use Rattle.vm_facts.specs.declared.event.Event.TheVariants as events
 use Rattle.vm_core.proofs.Noting.{stops_on}
 use Rattle.vm_core.proofs.Asked.{interrupt_makes, interrupt_steady, interrupt_halts}
-use Rattle.step_units.specs.Sizes.{KeptAtStop}
-use Rattle.step_units.specs.Stepped.{StopsFrom}
+use Rattle.proc_run.specs.Sizes.{KeptAtStop}
+use Rattle.proc_run.specs.Stepped.{StopsFrom}
 use Rattle.vm_core.proofs.Kept.{kept_ending}
 use Rattle.vm_core.proofs.lines.interrupt.Goals as goal
 use Rattle.vm_core.specs.Lines.{LineAt}

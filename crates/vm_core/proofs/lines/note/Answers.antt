@@ -1,7 +1,7 @@
 use Rattle.std.proofs.lemmas.Result.{on_ok_weaker}
-use Rattle.swapper.specs.Stops.{StopsBefore}
-use Rattle.step_units.specs.Sizes.{KeptAtStop}
-use Rattle.step_units.proofs.StopsKeep.{before_same}
+use Rattle.proc_run.specs.Stops.{StopsBefore}
+use Rattle.proc_run.specs.Sizes.{KeptAtStop}
+use Rattle.proc_run.proofs.StopsKeep.{before_same}
 use Rattle.vm_core.proofs.Noting.{stops_noting, stops_weaker}
 use Rattle.vm_core.proofs.Steadying.{noted_first, noted_steady}
 use Rattle.vm_core.proofs.lines.note.Goals as goal

@@ -2,8 +2,8 @@ use Rattle.io_edge.specs.WithFiles.{stores}
 use Rattle.vm_facts.specs.declared.event.Event.TheVariants as events
 use Rattle.vm_core.proofs.Noting.{stops_on}
 use Rattle.vm_core.proofs.Asked.{swapper_makes, swapper_steady, swapper_halts}
-use Rattle.step_units.specs.Sizes.{KeptAtStop}
-use Rattle.step_units.specs.Stepped.{StopsFrom}
+use Rattle.proc_run.specs.Sizes.{KeptAtStop}
+use Rattle.proc_run.specs.Stepped.{StopsFrom}
 use Rattle.vm_core.proofs.Kept.{kept_turning}
 use Rattle.vm_core.proofs.lines.swapper.Goals as goal
 use Rattle.vm_core.specs.Lines.{LineAt}

@@ -1,7 +1,7 @@
 use Rattle.io_edge.specs.WithFiles.{stores}
 use Rattle.std.proofs.Common.{false}
 use Rattle.vm_facts.specs.declared.event.Event.TheVariants as events
-use Rattle.step_units.specs.Stepped.{LeadsFrom, StopsFrom}
+use Rattle.proc_run.specs.Stepped.{LeadsFrom, StopsFrom}
 use Rattle.vm_core.proofs.Noting.{ok_weaker, stops_weaker}
 use Rattle.vm_core.proofs.Dispatching.{dispatch_done, dispatch_stops}
 use Rattle.vm_core.proofs.running.dispatch.Goals as goal

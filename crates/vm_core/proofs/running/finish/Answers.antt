@@ -1,6 +1,6 @@
 use Rattle.io_edge.specs.WithFiles.{stores}
 use Rattle.std.proofs.Common.{true}
-use Rattle.step_units.specs.Stepped.{LeadsFrom, StopsFrom}
+use Rattle.proc_run.specs.Stepped.{LeadsFrom, StopsFrom}
 use Rattle.vm_core.proofs.Noting.{ok_weaker, stops_weaker}
 use Rattle.vm_core.proofs.Dispatching.{finish_done, finish_stops}
 use Rattle.vm_core.proofs.running.finish.Goals as goal

@@ -2,9 +2,9 @@ use Rattle.io_edge.specs.WithFiles.{stores}
 use Rattle.std.proofs.Common.{length, subst}
 use Rattle.vm_core.proofs.Going.{limit_finishes, closing_finishes, closing_stops}
 use Rattle.vm_core.proofs.Noting.{stops_on, stops_weaker, ok_so}
-use Rattle.step_units.specs.Sizes.{KeptAtStop}
-use Rattle.step_units.specs.Stepped.{LeadsFrom, StopsFrom}
-use Rattle.step_units.proofs.StopsKeep.{kept_through}
+use Rattle.proc_run.specs.Sizes.{KeptAtStop}
+use Rattle.proc_run.specs.Stepped.{LeadsFrom, StopsFrom}
+use Rattle.proc_run.proofs.StopsKeep.{kept_through}
 use Rattle.vm_core.proofs.schedule.finish.Goals as goal
 use Rattle.vm_core.specs.Closing.{AllTaken, Closed}
 use Rattle.vm_core.specs.Schedules.{IsBeforeLines, LinesWent, LinesFinished}

@@ -1,10 +1,10 @@
 use Rattle.io_edge.specs.WithFiles.{stores}
 use Rattle.std.proofs.Common.{◌≡◌, Result, Ok, Err, ap, ◌∙◌, subst, arith}
 use Rattle.vm_core.specs.declared.first_processes.Started.{Started}
-use Rattle.step_units.specs.Stepped.{LeadsFrom, StopsFrom}
+use Rattle.proc_run.specs.Stepped.{LeadsFrom, StopsFrom}
 use Rattle.vm_facts.specs.declared.stop.Stop.{Stop}
 use Rattle.vm_facts.specs.declared.stop.Stop.TheVariants as stops
-use Rattle.step_units.proofs.StopsKeep.{kept_through}
+use Rattle.proc_run.proofs.StopsKeep.{kept_through}
 use Rattle.vm_core.specs.Full.{RunFull, RunStopsAt}
 use Rattle.vm_core.specs.RunEnds.{RunEnds}
 use Rattle.vm_core.specs.declared.schedule.Unfinished.TheVariants.{Stopped}

@@ -5,9 +5,9 @@ use Rattle.vm_facts.specs.declared.event.Event.TheVariants.{Dispatch}
 use Rattle.vm_core.proofs.Noting.{stops_on}
 use Rattle.vm_core.proofs.Going.{HasTaken, few_at, none_taken, line_taken, line_stops, limit_taken, goes_below}
 use Rattle.machine_state.proofs.Transfers.{transfers_none, transfers_then}
-use Rattle.step_units.specs.Sizes.{KeptAtStop}
-use Rattle.step_units.specs.Stepped.{LeadsFrom, StopsFrom}
-use Rattle.step_units.proofs.StopsKeep.{kept_through}
+use Rattle.proc_run.specs.Sizes.{KeptAtStop}
+use Rattle.proc_run.specs.Stepped.{LeadsFrom, StopsFrom}
+use Rattle.proc_run.proofs.StopsKeep.{kept_through}
 use Rattle.vm_core.proofs.schedule.take_lines.Goals as goal
 use Rattle.vm_core.specs.Cores.{LineDueAt, LineTaken}
 use Rattle.vm_core.specs.Schedules.{IsBeforeLines}

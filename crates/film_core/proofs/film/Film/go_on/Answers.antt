@@ -3,7 +3,7 @@ use Rattle.std.proofs.Common.{◌≡◌, false, sym, ap, ◌∙◌, subst}
 use Rattle.vm_facts.specs.declared.stop.Stop.TheVariants as stops
 use Rattle.machine_state.specs.Machine.{Standing}
 use Rattle.vm_core.proofs.Noting.{stops_on}
-use Rattle.step_units.specs.Stepped.{StopsFrom}
+use Rattle.vm_core.specs.Stepped.{StopsFrom}
 use Rattle.film_core.specs.Films.{Filming, IsFilming, FilmGoes, one_wider, FilmsAt}
 use Rattle.film_core.proofs.Entered.{starved_film, film_stops, film_fits, film_goes, film_machine}
 use Rattle.film_core.proofs.film.Film.go_on.Goals as goal

@@ -4,7 +4,7 @@ use Rattle.std.specs.Prelude.{IfErr}
 use Rattle.vm_facts.specs.declared.stop.Stop.{Stop}
 use Rattle.vm_facts.specs.declared.stop.Stop.TheVariants as stops
 use Rattle.vm_core.specs.Leading.{IsTold, StartStops}
-use Rattle.step_units.specs.Sizes.{KeptAtStop}
+use Rattle.vm_core.specs.Sizes.{KeptAtStop}
 use Rattle.vm_core.specs.FirstProcesses.{HasStarted}
 use Rattle.vm_core.specs.declared.first_processes.Started.{Started}
 use Rattle.vm_core.specs.declared.first_processes.Started.TheVariants as starteds

@@ -3,7 +3,7 @@ use Rattle.std.proofs.Common.{subst}
 use Rattle.vm_core.specs.Cores.{Underway}
 use Rattle.vm_core.proofs.Noting.{stops_on}
 use Rattle.vm_core.proofs.Closings.{run_stops}
-use Rattle.step_units.specs.Sizes.{KeptAtStop}
+use Rattle.proc_run.specs.Sizes.{KeptAtStop}
 use Rattle.vm_core.proofs.run.Core.close_run.Goals as goal
 use Rattle.vm_core.specs.Closing.{AllTaken}
 use Rattle.vm_core.specs.Accounts.{StopsAccountedFrom}

@@ -4,9 +4,9 @@ use Rattle.vm_core.specs.Cores.{Underway, StandsUnderway, LineDueAt, LineTaken}
 use Rattle.vm_core.specs.Accounts.{StopsAccountedFrom}
 use Rattle.vm_core.proofs.Noting.{stops_on}
 use Rattle.vm_core.proofs.Taking.{takes_line, stops_carrying, stops_noted}
-use Rattle.step_units.specs.Sizes.{KeptAtStop}
-use Rattle.step_units.specs.Stepped.{LeadsFrom}
-use Rattle.step_units.proofs.StopsKeep.{kept_through}
+use Rattle.proc_run.specs.Sizes.{KeptAtStop}
+use Rattle.proc_run.specs.Stepped.{LeadsFrom}
+use Rattle.proc_run.proofs.StopsKeep.{kept_through}
 use Rattle.vm_core.proofs.run.Core.event.Goals as goal
 
 pub returns-in_err-note-clause-stops : goal.returns-in_err-note-clause-stops

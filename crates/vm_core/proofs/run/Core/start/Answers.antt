@@ -4,7 +4,7 @@ use Rattle.vm_core.specs.Cores.{Underway}
 use Rattle.vm_core.specs.Starting.{StartsRun, StopsStartingRun}
 use Rattle.vm_core.proofs.Starts.{starts_run, Stopping, stops_starting}
 use Rattle.std.specs.Prelude.{IfErr}
-use Rattle.step_units.specs.Sizes.{KeptAtStop}
+use Rattle.proc_run.specs.Sizes.{KeptAtStop}
 use Rattle.vm_core.proofs.run.Core.start.Goals as goal
 
 pub returns-clause-starts : goal.returns-clause-starts
