@@ -2,7 +2,7 @@
 use Rattle.std.proofs.Common.{◌≡◌, List, [], ◌∷◌, ◌++◌, map, refl, sym, ap}
 use Rattle.vm_facts.specs.FileRequests.{FileRequest, FileNotes, after_requests}
 use Rattle.vm_facts.specs.SwapImages.{StoreRequest, SwapRead, SwapWrite, OfFiles, Beside, SwapImage, with_requests}
-use Rattle.io_edge.specs.WithFiles.{of_swap, of_files, image_with_files, with_files}
+use Rattle.io_edge.specs.WithFiles.{of_swap, of_files, image_with_files}
 
 pub of_swap-append : (xs ys : List StoreRequest) → of_swap (xs ++ ys) ≡ of_swap xs ++ of_swap ys
 of_swap-append [] ys = refl

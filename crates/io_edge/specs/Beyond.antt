@@ -1,6 +1,6 @@
 -- Why each device of a pair keeps what it has beyond the pair's blocks.
 use Rattle.std.specs.Prelude.{◌≡◌, ℕ, Option}
-use Rattle.std.proofs.Common.{ap, ◌∙◌, subst, sym}
+use Rattle.std.proofs.Common.{◌∙◌, subst}
 use Rattle.vm_facts.specs.SwapImages.{SwapImage}
 use Rattle.io_edge.specs.Striping.{zero_needs, one_needs, pair_blocks, KeepsBeyond}
 

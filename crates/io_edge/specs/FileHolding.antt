@@ -40,6 +40,33 @@ abbrev pub AnswersName : Option (List NamedFile) → List ℕ → Found → Type
 AnswersName None name found = ⊤
 AnswersName (Some files) name found = AnswersIn files name found
 
+-- what is found at a place of these files
+abbrev pub found_at : List NamedFile → Option ℕ → Found
+found_at files None = Absent
+found_at files (Some place) = Is place (length (bytes_at files place))
+
+-- what is found of a name in these files
+abbrev pub found_in : List NamedFile → List ℕ → Found
+found_in files name = found_at files (place_of files name)
+
+-- what has been found out so far of each name: nothing, or its number and length, or that there is no such file
+abbrev pub Known : Type 0
+Known = List ℕ → Option Found
+
+-- a name is known to be what was found of it
+abbrev pub IsKnown : Known → List ℕ → Found → Type 0
+IsKnown known name (Is id len) = known name ≡ Some (Is id len)
+IsKnown known name Absent = known name ≡ Some Absent
+IsKnown known name Failed = ⊤
+
+-- what is known stays
+abbrev pub StaysKnown : Known → Known → Type 0
+StaysKnown old new = (name : List ℕ) (found : Found) → old name ≡ Some found → new name ≡ Some found
+
+-- two names that are known of files have two numbers
+abbrev pub KnownApart : Known → Type 0
+KnownApart known = (one two : List ℕ) (id len length : ℕ) → known one ≡ Some (Is id len) → known two ≡ Some (Is id length) → one ≡ two
+
 -- the count of faults over one search for a name
 abbrev pub CountsFind : Found → ℕ → ℕ → Type 0
 CountsFind (Is id len) old new = new ≡ old

@@ -4,6 +4,7 @@ pub mod Plan
 pub mod PlanLaws
 pub mod Calls
 pub mod FileHolding
+pub mod Known
 pub mod SwapImage
 pub mod SwapRuns
 pub mod Written

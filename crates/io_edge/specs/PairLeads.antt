@@ -1,5 +1,5 @@
 -- Why the relation of a pair of devices is one of a device.
-use Rattle.std.proofs.Common.{◌≡◌, ◌≤◌, ◌+◌, ℕ, zero, suc, Option, Some, inl, inr, arith}
+use Rattle.std.proofs.Common.{◌≡◌, ◌≤◌, ◌+◌, ℕ, zero, suc, Option, inl, inr, arith}
 use Rattle.io_edge.specs.Count.{count_after}
 use Rattle.io_edge.specs.Striping.{of_device}
 use Rattle.io_edge.specs.PairFailures.{AddsFailures}

@@ -1,7 +1,7 @@
 //! The files that a run reads: found by name, read by ranges. No call changes a file.
 ghost use Rattle.std.specs.Prelude.{◌≡◌, ℕ, ◌<◌, ◌≤◌, List, Option, length};
 ghost use Rattle.io_edge.specs.Count.{Counts, OnDone};
-ghost use Rattle.io_edge.specs.FileHolding.{NamedFile, AnswersName, CountsFind, HasRange, HoldsRange};
+ghost use Rattle.io_edge.specs.FileHolding.{NamedFile, AnswersName, CountsFind, HasRange, HoldsRange, Known, IsKnown, StaysKnown, KnownApart};
 ghost use Rattle.io_edge.specs.FileRequests.{FileNotes, FileFind, FileRead, after_request};
 
 use crate::{Found, Moved};
@@ -14,6 +14,10 @@ use crate::{Found, Moved};
 pub trait Files {
     /// The names and bytes of all files, in order, where they are told.
     ghost holds: { Self → Option (List NamedFile) };
+
+    /// What has been found out of each name. It stays, so a name that is sought again is found as it was, under the same number
+    /// and with the same length, or is absent as it was; and two names have two numbers.
+    ghost known: { Self → Known };
 
     /// What will have been noted, once further requests are made. Code over any files knows it by the clauses of the calls
     /// alone: each call notes its request, also one that fails, and nothing else does.
@@ -29,12 +33,14 @@ pub trait Files {
     ghost leads: { Self → Self → Type 0 };
 
     /// Looks for a file by its name. Absent comes only where a told list lacks the name, and Failed
-    /// only where `open_faults` rose. Where the list is told, `id` is the first place of the name.
+    /// only where `open_faults` rose. Where the list is told, `id` is the first place of the name. A name that was found, or was
+    /// absent, is the same at each later call, told or not.
     fn find(&mut self, name: &str) -> Found
         ensures leads { leads self.old self.new }
         ensures holds { holds self.new ≡ holds self.old }
         ensures notes { notes self.new ≡ after_request (FileFind name.now) (notes self.old) }
         ensures answer { AnswersName (holds self.old) name.now result }
+        ensures known { IsKnown (known self.new) name.now result }
         ensures open_faults { CountsFind result (open_faults self.old) (open_faults self.new) }
         ensures page_faults { page_faults self.new ≡ page_faults self.old };
 
@@ -59,6 +65,12 @@ pub trait Files {
 
     /// No call changes the files.
     ghost leads_same: { (a b : Self) → leads a b → holds b ≡ holds a };
+
+    /// What is known of a name stays.
+    ghost known_stays: { (a b : Self) → leads a b → StaysKnown (known a) (known b) };
+
+    /// Two names have two numbers.
+    ghost known_apart: { (f : Self) → KnownApart (known f) };
 
     /// The first count never falls.
     ghost open_grows: { (a b : Self) → leads a b → open_faults a ≤ open_faults b };

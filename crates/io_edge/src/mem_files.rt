@@ -3,7 +3,8 @@ ghost use Rattle.std.specs.Prelude.{◌≡◌, ◌+◌, ◌^◌, ◌<◌, ◌≤
 ghost use Rattle.std.proofs.Common.{◌∙◌, ap, le_refl, le_trans, lit≤};
 ghost use Rattle.io_edge.specs.Calls.{KeepsFiles};
 ghost use Rattle.io_edge.specs.Count.{Counts, OnDone};
-ghost use Rattle.io_edge.specs.FileHolding.{AnswersName, CountsFind, HasRange, HoldsRange, named_file, file_range};
+ghost use Rattle.io_edge.specs.FileHolding.{AnswersName, CountsFind, HasRange, HoldsRange, IsKnown, named_file, file_range, found_in};
+ghost use Rattle.io_edge.specs.Known.{known_of_same, found_apart};
 ghost use Rattle.io_edge.specs.Octets.{AreOctetFiles};
 ghost use Rattle.io_edge.specs.Plan.{FailsNext, IsNewPlan, LaterCalls, NextCall};
 ghost use Rattle.io_edge.specs.PlanLaws.{later_itself, later_through};
@@ -49,6 +50,8 @@ impl SureFiles {
 impl Files for SureFiles {
     ghost holds = { λ f. Some (map named_file f.files.items) };
 
+    ghost known = { λ f name. Some (found_in (map named_file f.files.items) name) };
+
     ghost notes = { λ _. no_notes };
 
     ghost open_faults = { λ _. 0 };
@@ -77,6 +80,10 @@ impl Files for SureFiles {
     ghost leads_through = { λ _ _ _ first then. then ∙ first };
 
     ghost leads_same = { λ _ _ same. ap Some same };
+
+    ghost known_stays = { λ _ _ same. known_of_same same };
+
+    ghost known_apart = { λ f. found_apart (map named_file f.files.items) };
 
     ghost open_grows = { λ _ _ _. lit≤ tt };
 
@@ -116,6 +123,8 @@ impl MemFiles {
 impl Files for MemFiles {
     ghost holds = { λ f. Some (map named_file f.store.files.items) };
 
+    ghost known = { λ f name. Some (found_in (map named_file f.store.files.items) name) };
+
     ghost notes = { λ _. no_notes };
 
     ghost open_faults = { λ f. f.open_faults };
@@ -129,6 +138,7 @@ impl Files for MemFiles {
         ensures kept { KeepsFiles ⟦<MemFiles as Files>⟧ self.old self.new }
         ensures notes { ⟦<MemFiles as Files>⟧.notes self.new ≡ after_request (FileFind name.now) (⟦<MemFiles as Files>⟧.notes self.old) }
         ensures answer { AnswersName (⟦<MemFiles as Files>⟧.holds self.old) name.now result }
+        ensures known { IsKnown (⟦<MemFiles as Files>⟧.known self.new) name.now result }
         ensures open_faults { CountsFind result self.old.open_faults self.new.open_faults }
         ensures page_faults { self.new.page_faults ≡ self.old.page_faults }
 
@@ -178,6 +188,10 @@ impl Files for MemFiles {
     ) };
 
     ghost leads_same = { λ _ _ led. ap Some led.0 };
+
+    ghost known_stays = { λ _ _ led. known_of_same led.0 };
+
+    ghost known_apart = { λ f. found_apart (map named_file f.store.files.items) };
 
     ghost open_grows = { λ _ _ led. led.1 };
 

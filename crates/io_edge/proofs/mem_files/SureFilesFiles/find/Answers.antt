@@ -1,7 +1,9 @@
-use Rattle.std.proofs.Common.{◌≡◌, ◌<◌, ◌∙◌, ap, arith, length, position, Some, bytes_eq, string_bytes}
+use Rattle.std.proofs.Common.{◌≡◌, ◌<◌, ◌∙◌, ap, arith, length, map, position, Some, bytes_eq, string_bytes}
 use Rattle.std.proofs.lemmas.List.Quantifiers.{position-Some}
 use Rattle.io_edge.specs.FileHolding.{NamedFile, named_file}
 use Rattle.io_edge.proofs.NamedFiles.{position-map, bytes_at-map}
+use Rattle.io_edge.specs.Known.{known_from_answer}
+use Rattle.io_edge.specs.declared.Found.TheVariants.{Is, Absent}
 use Rattle.io_edge.proofs.mem_files.SureFilesFiles.find.Goals as goal
 
 pub returns-in-Some-clause-answer : goal.returns-in-Some-clause-answer
@@ -18,3 +20,11 @@ returns-in-Some-clause-answer c =
 pub returns-in-None-clause-answer : goal.returns-in-None-clause-answer
 returns-in-None-clause-answer c =
     position-map (λ (file : NamedFile). bytes_eq file.name c.args.name.now) named_file c.args.self.now.files.items ∙ cc
+
+pub returns-in-Some-clause-known : goal.returns-in-Some-clause-known
+returns-in-Some-clause-known c =
+    known_from_answer (map named_file c.args.self.now.files.items) c.args.name.now (Is c.in-Some.at c.len.result) (returns-in-Some-clause-answer c)
+
+pub returns-in-None-clause-known : goal.returns-in-None-clause-known
+returns-in-None-clause-known c =
+    known_from_answer (map named_file c.args.self.now.files.items) c.args.name.now Absent (returns-in-None-clause-answer c)
