@@ -245,5 +245,9 @@ fn the_last_line_of_an_output_is_kept(rt: HostRuntime) {
         is_last_line(&["t 1\n", "x"], "x"),
     ];
     is(&rt, &answers, &[true; 5]);
-    is(&rt, &[kept_of(15), kept_of(16), kept_of(17)], &[120, 128, 128]);
+    is(
+        &rt,
+        &[kept_of(15), kept_of(16), kept_of(17)],
+        &[120, 128, 128],
+    );
 }
