@@ -14,7 +14,7 @@ use std::rt::Files;
 use std::{fs, io};
 
 // The files of cases, in their order: the programs of the first are there for all.
-const NAMES: [&'static str; 8] = [
+const NAMES: [&'static str; 13] = [
     "programs",
     "tools",
     "endings",
@@ -23,6 +23,11 @@ const NAMES: [&'static str; 8] = [
     "questions",
     "kernels",
     "devices",
+    "orders",
+    "edges",
+    "transfers",
+    "hands",
+    "swapper",
 ];
 
 // Takes the lines of a text, and prints what differs in its runs, and how many are as recorded.

@@ -222,6 +222,19 @@ fn is_last_line(pieces: &[&str], line: &str) -> bool {
     sink.last_line() == line.as_bytes()
 }
 
+// How many bytes are kept of a line of so many pieces of eight bytes each.
+fn kept_of(pieces: usize) -> usize {
+    let output = RefusingOutput {
+        error: ErrorKind::Other,
+        times: Cell::new(0),
+    };
+    let mut sink = OutSink::new(&output);
+    for _ in 0..pieces {
+        let _ = sink.put(b"8 bytes ");
+    }
+    sink.last_line().len()
+}
+
 #[test]
 fn the_last_line_of_an_output_is_kept(rt: HostRuntime) {
     let answers = [
@@ -232,4 +245,9 @@ fn the_last_line_of_an_output_is_kept(rt: HostRuntime) {
         is_last_line(&["t 1\n", "x"], "x"),
     ];
     is(&rt, &answers, &[true; 5]);
+    is(
+        &rt,
+        &[kept_of(15), kept_of(16), kept_of(17)],
+        &[120, 128, 128],
+    );
 }

@@ -1,6 +1,6 @@
 //! Judges a whole trace from the start of a run, line by line. It must end at the first line that can't come.
 ghost use Rattle.io_edge.specs.WithFiles.{stores};
-ghost use Rattle.std.specs.Prelude.{◌≡◌, ◌+◌, ◌≤◌, ◌<◌, ◌^◌, ℕ, [], length, Some, None, Err, IfOk};
+ghost use Rattle.std.specs.Prelude.{◌≡◌, ◌+◌, ◌≤◌, ◌<◌, ◌^◌, ℕ, [], length, Some, None, Err, IfOk, IsOk};
 ghost use Rattle.vm_facts.specs.SwapImages.{SwapImage};
 ghost use Rattle.flat_state.specs.Flat.{Inputs};
 ghost use Rattle.machine_state.specs.Outside.{Asks, IsBacked};
@@ -97,6 +97,7 @@ fn lacks_by(started: Started) -> Option<u32>
 // A journal that has no room for the first entry, or want of memory.
 fn full_or_memory(stop: Stop) -> Result<Option<u32>, NoMemory>
     ensures full { IfOk result (λ lacks. stop ≡ Stop.JournalFull) }
+    ensures no_more { stop ≡ Stop.JournalFull → IsOk result }
     ensures none { IfOk result (λ lacks. lacks ≡ None) }
 {
     match stop {
