@@ -1,5 +1,6 @@
 pub use Rattle.repage_command.specs.RunCommandAsking
 pub use Rattle.repage_command.specs.Seen
+pub use Rattle.repage_command.specs.Sight
 pub use Rattle.repage_command.specs.Paired
 pub use Rattle.repage_command.specs.RunCommandEnds
 pub use Rattle.repage_command.specs.RunHeadline
