@@ -23,6 +23,12 @@ pub record NoneFailed (f : DeviceFaults) : Type 0 where
 abbrev pub DeviceFailed : ℕ → DeviceFaults → Type 0
 DeviceFailed device f = (device < 2) × RoseAlone device f.zero_before f.zero_after f.one_before f.one_after
 
+-- counts of failed calls of files and of both swap devices
+pub record CallFaults : Type 0 where
+  pub files : Faults
+  pub reads : DeviceFaults
+  pub writes : DeviceFaults
+
 -- what a run sees of its files, its two swap devices and its output, before and after
 pub record Seen : Type 0 where
   -- the files, where they are told, the counts of their faults, and what they will have noted of what is asked of them

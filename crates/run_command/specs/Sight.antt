@@ -6,7 +6,7 @@ use Rattle.io_edge.specs.declared.files.Files.{Ghosts as FilesGhosts}
 use Rattle.io_edge.specs.declared.swap_dev.SwapDev.{Ghosts as SwapGhosts}
 use Rattle.io_edge.specs.declared.sink.Sink.{Ghosts as SinkGhosts}
 use Rattle.command_edge.specs.Command.{Faults}
-use Rattle.run_command.specs.Seen.{Seen}
+use Rattle.run_command.specs.Seen.{CallFaults, Seen}
 use Rattle.run_command.specs.Paired.{image_together}
 
 -- what is seen of two devices and an output, beside what is told of files, of their faults and of what they note
@@ -47,6 +47,25 @@ faults_seen f old new = record {
   open_after = f.open_faults new;
   page_before = f.page_faults old;
   page_after = f.page_faults new;
+}
+
+-- the counts of failed calls of files and of two devices
+abbrev pub call_faults : {F D E : Type 0} (f : FilesGhosts F) (d : SwapGhosts D) (e : SwapGhosts E) (files_old files_new : F) (zero_old zero_new : D)
+    (one_old one_new : E) → CallFaults
+call_faults f d e files_old files_new zero_old zero_new one_old one_new = record {
+  files = faults_seen f files_old files_new;
+  reads = record {
+    zero_before = d.read_faults zero_old;
+    zero_after = d.read_faults zero_new;
+    one_before = e.read_faults one_old;
+    one_after = e.read_faults one_new;
+  };
+  writes = record {
+    zero_before = d.write_faults zero_old;
+    zero_after = d.write_faults zero_new;
+    one_before = e.write_faults one_old;
+    one_after = e.write_faults one_new;
+  };
 }
 
 -- what is seen of files, two devices and an output

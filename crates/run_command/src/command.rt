@@ -12,7 +12,7 @@ ghost use Rattle.vm_core.specs.Starting.{IsFresh};
 ghost use Rattle.run_command.specs.Naming.{shown_as};
 ghost use Rattle.run_command.specs.Machines.{machine_up_to, machine_of, SuitsMachine, IsOfOpening};
 ghost use Rattle.run_command.specs.Outside.{KeepsOutside, Early};
-ghost use Rattle.run_command.specs.Sight.{faults_seen, seen_beside, seen_of_all};
+ghost use Rattle.run_command.specs.Sight.{faults_seen, call_faults, seen_beside, seen_of_all};
 ghost use Rattle.run_command.specs.Ends.{Runs, RunsOpened};
 ghost use Rattle.run_command.specs.Headlines.{CarriesHeadline};
 
@@ -126,7 +126,8 @@ fn run_words<F: Files, D: SwapDev, E: SwapDev, S: Sink>(
         (seen_of_all F.Files D.SwapDev E.SwapDev S.Sink files.old files.new zero.old zero.new one.old one.new sink.old sink.new) result }
     ensures headline { CarriesHeadline (record { traced = traced; numbers = numbers; schedule = schedule.now; words = map (λ word. word.now) words.now })
         (F.holds files.old) (D.image zero.old) (E.image one.old) (D.blocks zero.old) (E.blocks one.old)
-        (S.written sink.old) (S.written sink.new) (S.faults sink.old) (S.faults sink.new) result }
+        (S.written sink.old) (S.written sink.new) (S.faults sink.old) (S.faults sink.new)
+        (call_faults F.Files D.SwapDev E.SwapDev files.old files.new zero.old zero.new one.old one.new) result }
     ensures kept { KeepsOutside F.Files D.SwapDev E.SwapDev S.Sink files.old files.new zero.old zero.new one.old one.new sink.old sink.new }
     ensures zero_left { Early result (zero.new ≡ zero.old) }
     ensures one_left { Early result (one.new ≡ one.old) }
@@ -170,7 +171,8 @@ pub fn run_command<F: Files, D: SwapDev, E: SwapDev, S: Sink>(
     ensures headline { CarriesHeadline
         (record { traced = traced; numbers = numbers; schedule = schedule.now; words = map (λ word. word.now) (word_list images.entry) })
         (F.holds files.old) (D.image zero.old) (E.image one.old) (D.blocks zero.old) (E.blocks one.old)
-        (S.written sink.old) (S.written sink.new) (S.faults sink.old) (S.faults sink.new) result }
+        (S.written sink.old) (S.written sink.new) (S.faults sink.old) (S.faults sink.new)
+        (call_faults F.Files D.SwapDev E.SwapDev files.old files.new zero.old zero.new one.old one.new) result }
     ensures kept { KeepsOutside F.Files D.SwapDev E.SwapDev S.Sink files.old files.new zero.old zero.new one.old one.new sink.old sink.new }
     ensures zero_left { Early result (zero.new ≡ zero.old) }
     ensures one_left { Early result (one.new ≡ one.old) }

@@ -1,12 +1,15 @@
--- What is claimed of every run, whatever the policy by which pages come and go.
+-- What is claimed of every run: first whatever the policy is by which pages come and go, and then by the written one.
 use Rattle.std.specs.Prelude.{◌≡◌, ◌⊎◌, ◌<◌, ◌≤◌, ℕ, false, List, [], ◌∷◌, length, Some, Ok}
 use Rattle.vm_facts.specs.declared.entry.Entry.{Entry}
 use Rattle.swap_book.specs.Holdings.{Holdings}
 use Rattle.flat_state.specs.Flat.{Inputs, can_step}
-use Rattle.flat_state.specs.Journal.{appended, units_of, instructions_of}
+use Rattle.flat_state.specs.Journal.{append, appended, units_of, instructions_of}
 use Rattle.flat_model.specs.Run.{flat_run}
 use Rattle.flat_model.specs.Asked.{start_held}
 use Rattle.run_model.specs.Snapshot.{Snapshot, start_snapshot, snapshot_after}
+use Rattle.run_model.specs.State.{State}
+use Rattle.run_model.specs.Next.{next_unit}
+use Rattle.run_model.specs.Lawful.{IsLawful, IsFinished}
 use Rattle.economy_laws.specs.Turns.{ComesInTurn}
 use Rattle.proc_run.specs.Owners.{IsOwned, RefusesRightly}
 
@@ -43,13 +46,29 @@ pub record Headline (A : Inputs) (journal : List Entry) : Type 0 where
   pub turns : KeepsTurns A (start_snapshot A holdings) (units_of journal)
   pub within : instructions_of journal ≤ A.limit
 
+-- the headline holds of a journal that the written policy makes: each of its units is the next one by it, up to this state
+pub record HeadlineByPolicy (A : Inputs) (journal : List Entry) : Type 0 where
+  pub headline : Headline A journal
+  pub state : State
+  pub lawful : IsLawful A journal state
+
 -- A journal that ends at this snapshot is over: as many instructions are counted as may run, or all lines are taken and no process
--- can step.
+-- can step; and nothing is due.
 abbrev pub RunIsOver : Inputs → List Entry → Snapshot → Type 0
 RunIsOver A journal x =
-    (instructions_of journal ≡ A.limit) ⊎ ((length A.lines ≤ x.lines) × ((pid : ℕ) → 0 < pid → can_step x.point.flat pid ≡ false))
+    ((instructions_of journal ≡ A.limit) ⊎ ((length A.lines ≤ x.lines) × ((pid : ℕ) → 0 < pid → can_step x.point.flat pid ≡ false)))
+    × (x.place.due ≡ [])
 
--- the headline holds of a journal that is over
+-- the headline holds of a journal that is over, and it is the finished one of the written policy, which has one
 pub record HeadlineOver (A : Inputs) (journal : List Entry) : Type 0 where
   pub headline : Headline A journal
   pub over : RunIsOver A journal (last_snapshot A headline.holdings journal)
+  pub state : State
+  pub finished : IsFinished A journal state
+
+-- the headline holds of a journal that the written policy makes, whose next unit has no room: it isn't joined to the last entry
+pub record HeadlineFull (A : Inputs) (journal : List Entry) : Type 0 where
+  pub made : HeadlineByPolicy A journal
+  pub unit : Entry
+  pub next : next_unit A made.state ≡ Some unit
+  pub longer : length journal < length (append journal unit)

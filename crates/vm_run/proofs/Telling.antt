@@ -14,7 +14,7 @@ use Rattle.question_command.specs.Seen.{Seen}
 use Rattle.question_command.specs.Paired.{image_together}
 use Rattle.vm_run.specs.Obeying.{Obeys}
 use Rattle.vm_run.specs.Headline.{CarriesFor}
-use Rattle.vm_run.specs.InMemory.{blank_pair, seen_of, CompletesTold, ObeysTold, HeadlineInMemory}
+use Rattle.vm_run.specs.InMemory.{blank_pair, none_failed, seen_of, CompletesTold, ObeysTold, HeadlineInMemory}
 
 completes_told : {R : Type 0} (Ends : R → Faults → CommandEnding → Type 0) (told : List NamedFile → R) (seen : Seen) (files : List NamedFile) (status : ℕ)
     → seen.files ≡ Some files
@@ -86,13 +86,14 @@ pub headline_told : (asked : Option Request) (files : Option (List NamedFile)) (
     (zero one : Option SwapImage) (zero_image one_image : SwapImage)
     (zb ob zero_blocks one_blocks : ℕ) (empty written : Option (List ℕ)) (none faults status : ℕ) → files ≡ Some list → AreOctetFiles list
     → zero ≡ Some zero_image → one ≡ Some one_image → zb ≡ zero_blocks → ob ≡ one_blocks → empty ≡ Some [] → none ≡ 0
-    → CarriesFor asked files zero one zb ob empty written none faults status → HeadlineInMemory asked list zero_blocks one_blocks written faults status
+    → CarriesFor asked files zero one zb ob empty written none faults none_failed status → HeadlineInMemory asked list zero_blocks one_blocks written faults status
 headline_told None files list zero one zero_image one_image zb ob zero_blocks one_blocks empty written none faults status f octets z o zs os e n c = tt
 headline_told (Some request) files list zero one zero_image one_image zb ob zero_blocks one_blocks empty written none faults status f octets z o zs os e n c = record {
   journal = c.journal;
   ending = c.ending;
   writes = subst (λ (k : ℕ). Writes (Some []) written k faults (text_of request.traced c.journal ++ ending_line c.ending) (run_status c.ending) status) n
       (subst (λ (b : Option (List ℕ)). Writes b written none faults (text_of request.traced c.journal ++ ending_line c.ending) (run_status c.ending) status) e c.writes);
-  says = subst (λ (k : ℕ). Says request list k one_blocks c.journal c.ending) zs
-      (subst (λ (k : ℕ). Says request list zb k c.journal c.ending) os (c.told list zero_image one_image f octets z o));
+  failed = c.failed;
+  says = subst (λ (k : ℕ). Says request list k one_blocks none_failed.files c.journal c.ending) zs
+      (subst (λ (k : ℕ). Says request list zb k none_failed.files c.journal c.ending) os (c.told list zero_image one_image f octets z o));
 }

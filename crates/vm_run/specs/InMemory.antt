@@ -15,10 +15,10 @@ use Rattle.command_edge.specs.Command.{Faults, Writes, WritesEnding}
 use Rattle.source_commands.specs.Command.{source_bytes, EndsAssembly, EndsListing}
 use Rattle.replay_command.specs.Reading.{read_of_transcript as replay_told}
 use Rattle.replay_command.specs.Command.{EndsReplay}
-use Rattle.question_command.specs.Seen.{Seen}
+use Rattle.question_command.specs.Seen.{CallFaults, Seen}
 use Rattle.question_command.specs.Machines.{journal_entries}
 use Rattle.question_command.specs.Paired.{image_together}
-use Rattle.question_command.specs.Headlines.{Says}
+use Rattle.question_command.specs.Headlines.{Says, FailsAs}
 use Rattle.question_command.specs.RunCommandEnds.{RunEnding, run_status, ending_line, Writing, IsCaused, IsJudged, EndsTold}
 use Rattle.question_command.specs.Loads.{load_written, finished_lines, IsLoadCaused, LoadEnded}
 use Rattle.question_command.specs.Question.{Question}
@@ -128,13 +128,23 @@ DoesInMemory asked files zero_blocks one_blocks zero one written faults status =
     ObeysTold asked (seen_of files zero_blocks one_blocks (image_together zero_blocks one_blocks zero one) written faults) files
     (blank_pair zero_blocks one_blocks) status
 
+-- no call of a file or a device failed
+abbrev pub none_failed : CallFaults
+none_failed = record {
+  files = record { open_before = 0; open_after = 0; page_before = 0; page_after = 0 };
+  reads = record { zero_before = 0; zero_after = 0; one_before = 0; one_after = 0 };
+  writes = record { zero_before = 0; zero_after = 0; one_before = 0; one_after = 0 };
+}
+
 -- The headline, of a run whose files and devices are in memory, and of an output that was empty: the text of a journal was written, then
--- the line of the ending, of which the ending says what is so; or the output failed, and a prefix of that was written.
+-- the line of the ending, of which the ending says what is so; or the output failed, and a prefix of that was written. No call of a file or a
+-- device failed.
 pub record HeadlineTold (request : Request) (files : List NamedFile) (zero_blocks one_blocks : ℕ) (written : Option (List ℕ)) (faults status : ℕ) : Type 0 where
   pub journal : List Entry
   pub ending : RunEnding
   pub writes : Writes (Some []) written 0 faults (text_of request.traced journal ++ ending_line ending) (run_status ending) status
-  pub says : Says request files zero_blocks one_blocks journal ending
+  pub failed : FailsAs ending none_failed
+  pub says : Says request files zero_blocks one_blocks none_failed.files journal ending
 
 -- the same of words, where they ask for a run
 abbrev pub HeadlineInMemory : Option Request → List NamedFile → ℕ → ℕ → Option (List ℕ) → ℕ → ℕ → Type 0

@@ -1,5 +1,6 @@
 pub use Rattle.question_command.specs.RunCommandAsking
 pub use Rattle.question_command.specs.Seen
+pub use Rattle.question_command.specs.Sight
 pub use Rattle.question_command.specs.Paired
 pub use Rattle.question_command.specs.RunCommandEnds
 pub use Rattle.question_command.specs.RunHeadline

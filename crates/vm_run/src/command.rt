@@ -3,7 +3,7 @@
 ghost use Rattle.std.specs.Prelude.{◌≡◌, map};
 ghost use Rattle.command_words.specs.Asked.{request_of, asked_of};
 ghost use Rattle.question_command.specs.Outside.{KeepsOutside};
-ghost use Rattle.question_command.specs.Sight.{seen_of_all};
+ghost use Rattle.question_command.specs.Sight.{call_faults, seen_of_all};
 ghost use Rattle.vm_run.specs.Headline.{CarriesFor};
 ghost use Rattle.vm_run.specs.Failing.{FailsByStatus};
 ghost use Rattle.vm_run.specs.Obeying.{Obeys, LeavesFiles, LeavesDevice};
@@ -32,7 +32,8 @@ fn obey<F: Files, D: SwapDev, E: SwapDev, S: Sink>(
     ensures obeys { Obeys (asked_of (map (λ word. word.now) words.now))
         (seen_of_all F.Files D.SwapDev E.SwapDev S.Sink files.old files.new zero.old zero.new one.old one.new sink.old sink.new) result }
     ensures headline { CarriesFor (request_of (map (λ word. word.now) words.now)) (F.holds files.old) (D.image zero.old) (E.image one.old)
-        (D.blocks zero.old) (E.blocks one.old) (S.written sink.old) (S.written sink.new) (S.faults sink.old) (S.faults sink.new) result }
+        (D.blocks zero.old) (E.blocks one.old) (S.written sink.old) (S.written sink.new) (S.faults sink.old) (S.faults sink.new)
+        (call_faults F.Files D.SwapDev E.SwapDev files.old files.new zero.old zero.new one.old one.new) result }
     ensures files { LeavesFiles (asked_of (map (λ word. word.now) words.now)) (files.new ≡ files.old) }
     ensures kept { KeepsOutside F.Files D.SwapDev E.SwapDev S.Sink files.old files.new zero.old zero.new one.old one.new sink.old sink.new }
     ensures zero { LeavesDevice (asked_of (map (λ word. word.now) words.now)) result (zero.new ≡ zero.old) }
@@ -206,7 +207,8 @@ pub fn vmrun<F: Files, D: SwapDev, E: SwapDev, S: Sink>(
     ensures obeys { Obeys (asked_of (map (λ word. word.now) words.now))
         (seen_of_all F.Files D.SwapDev E.SwapDev S.Sink files.old files.new zero.old zero.new one.old one.new sink.old sink.new) result }
     ensures headline { CarriesFor (request_of (map (λ word. word.now) words.now)) (F.holds files.old) (D.image zero.old) (E.image one.old)
-        (D.blocks zero.old) (E.blocks one.old) (S.written sink.old) (S.written sink.new) (S.faults sink.old) (S.faults sink.new) result }
+        (D.blocks zero.old) (E.blocks one.old) (S.written sink.old) (S.written sink.new) (S.faults sink.old) (S.faults sink.new)
+        (call_faults F.Files D.SwapDev E.SwapDev files.old files.new zero.old zero.new one.old one.new) result }
     ensures files { LeavesFiles (asked_of (map (λ word. word.now) words.now)) (files.new ≡ files.old) }
     ensures kept { KeepsOutside F.Files D.SwapDev E.SwapDev S.Sink files.old files.new zero.old zero.new one.old one.new sink.old sink.new }
     ensures zero { LeavesDevice (asked_of (map (λ word. word.now) words.now)) result (zero.new ≡ zero.old) }

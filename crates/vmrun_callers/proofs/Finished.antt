@@ -15,7 +15,7 @@ use Rattle.command_words.specs.Asked.{Request}
 use Rattle.vm_run.specs.RunHeadline.{last_snapshot}
 use Rattle.vm_run.specs.Headlines.{Says}
 use Rattle.vm_run.specs.RunCommandEnds.{RunEnding, ending_line, run_status}
-use Rattle.vm_run.specs.InMemory.{HeadlineTold, HeadlineInMemory}
+use Rattle.vm_run.specs.InMemory.{none_failed, HeadlineTold, HeadlineInMemory}
 use Rattle.flat_laws.specs.Visible.{visible_of, has_end, IsSingle, Begins}
 use Rattle.flat_laws.specs.Agreement.{IsPair}
 use Rattle.flat_laws.proofs.Pairs.{visible_agrees, over_is_all, both_over, end_is_last}
@@ -37,7 +37,7 @@ run_written : (request : Request) (files : List NamedFile) (zero_blocks one_bloc
 run_written request files zero_blocks one_blocks written faults status headline zero = go headline.ending headline.writes headline.says
   where
     go : (ending : RunEnding) → Writes (Some []) written 0 faults (text_of request.traced headline.journal ++ ending_line ending) (run_status ending) status
-        → Says request files zero_blocks one_blocks headline.journal ending → IsWritten request.words files request.traced written
+        → Says request files zero_blocks one_blocks none_failed.files headline.journal ending → IsWritten request.words files request.traced written
     go (Ok done) (All whole appends none) says = record {
       inputs = says.inputs;
       journal = headline.journal;

@@ -1,8 +1,9 @@
 //! A caller of `vmrun` of which nothing but the headline is promised. So each body that spoils the headline is
-//! refused by that clause alone; edits/ has four of them.
+//! refused by that clause alone; edits/ has eight of them.
 ghost use Rattle.std.specs.Prelude.{map};
 ghost use Rattle.command_edge.specs.Command.{Writes};
 ghost use Rattle.command_words.specs.Asked.{request_of};
+ghost use Rattle.vm_run.specs.Sight.{call_faults};
 ghost use Rattle.vm_run.specs.Headline.{CarriesFor};
 
 use io_edge::{Files, MemSink, Moved, Sink, SwapDev};
@@ -34,7 +35,8 @@ pub fn headlined<F: Files, D: SwapDev, E: SwapDev, S: Sink>(
     sink: &mut S,
 ) -> u8
     ensures headline { CarriesFor (request_of (map (λ word. word.now) words.now)) (F.holds files.old) (D.image zero.old) (E.image one.old)
-        (D.blocks zero.old) (E.blocks one.old) (S.written sink.old) (S.written sink.new) (S.faults sink.old) (S.faults sink.new) result }
+        (D.blocks zero.old) (E.blocks one.old) (S.written sink.old) (S.written sink.new) (S.faults sink.old) (S.faults sink.new)
+        (call_faults F.Files D.SwapDev E.SwapDev files.old files.new zero.old zero.new one.old one.new) result }
 {
     vmrun(alloc, words, files, zero, one, sink)
 }
