@@ -3,5 +3,7 @@ pub mod ImageNames
 pub mod Asking
 pub mod Behind
 pub mod Counting
+pub mod ImageReads
+pub mod Looking
 pub mod Makings
 pub mod Statuses

@@ -14,6 +14,12 @@ FrontMade (Ok x) id count old new = new ≡ after_requests (range_asked id 0 cou
 FrontMade (Err NoMemory) id count old new = new ≡ old
 FrontMade (Err _) id count old new = new ≡ after_requests (range_asked id 0 count) old
 
+-- The same of so many bytes after the header of an image: nothing is read where there are none.
+abbrev pub RestMade : {A : Type 0} → Result A Unread → ℕ → ℕ → FileNotes → FileNotes → Type 0
+RestMade (Ok x) id count old new = new ≡ after_requests (range_asked id 32 count) old
+RestMade (Err NoMemory) id count old new = new ≡ old
+RestMade (Err _) id count old new = new ≡ after_requests (range_asked id 32 count) old
+
 -- the read of the first bytes of a file that was found, so many at most; nothing is read of an empty one, nor where none was found
 abbrev pub front_asked : Found → ℕ → List FileRequest
 front_asked (Is id len) most = range_asked id 0 (min len most)

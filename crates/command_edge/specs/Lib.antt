@@ -4,4 +4,5 @@ pub mod Asked
 pub mod ImageWords
 pub mod Ending
 pub mod Named
+pub mod Looks
 pub mod Command

@@ -1,11 +1,13 @@
 //! Finds images and judges them by their headers; reads the rest where that is wanted.
-ghost use Rattle.std.specs.Prelude.{◌≡◌, ◌≤◌, ℕ, List, Some, Err, true, is_err, IfOk, IfErr, OnOk, min, length, take, drop};
+ghost use Rattle.std.specs.Prelude.{◌≡◌, ◌≤◌, ◌-◌, ℕ, List, Some, Err, true, is_err, IfOk, IfErr, OnOk, min, length, take, drop};
 ghost use Rattle.io_edge.specs.Calls.{KeepsFiles};
 ghost use Rattle.io_edge.specs.FileHolding.{NamedFile, place_of, bytes_at, HasRange, HoldsRange};
-ghost use Rattle.io_edge.specs.Transfer.{CountsErr};
+ghost use Rattle.io_edge.specs.FileRequests.{after_requests};
+ghost use Rattle.io_edge.specs.Transfer.{CountsErr, range_asked};
 ghost use Rattle.aout_image.specs.Image.{IsSound, file_length_of, judged_image, judged_of};
 ghost use Rattle.command_edge.specs.Answering.{Answers, CountsFault, CountsFaults, FailsInOrder, IsFailure, IsOfFoundFile};
-ghost use Rattle.command_edge.specs.Asked.{AsksFront, FrontMade};
+ghost use Rattle.command_edge.specs.Asked.{AsksFront, FrontMade, RestMade};
+ghost use Rattle.command_edge.specs.Looks.{AsksImage, IsUnfit, IsUnread, LoadMade};
 ghost use Rattle.command_edge.specs.Told.{facts_in, facts_told, image_told, image_in, IsImageOf};
 
 use crate::answers::{Headed, Loaded, Opened, Unread};
@@ -20,6 +22,7 @@ fn read_behind<F: Files>(files: &mut F, id: u32, bytes: &mut [u8]) -> Result<(),
     requires range { HasRange (F.holds files.old) id 0 (length bytes.old) }
     ensures head { take 32 bytes.new ≡ take 32 bytes.old }
     ensures rest { OnOk result (HoldsRange (F.holds files.old) id 32 (drop 32 bytes.new)) }
+    ensures notes { F.notes files.new ≡ after_requests (range_asked id 32 (length bytes.old - 32)) (F.notes files.old) }
     ensures kept { KeepsFiles F.Files files.old files.new }
     ensures open_faults { F.open_faults files.new ≡ F.open_faults files.old }
     ensures page_faults { CountsErr result (F.page_faults files.old) (F.page_faults files.new) }
@@ -36,6 +39,7 @@ fn read_rest<F: Files>(files: &mut F, id: u32, head: Vec<u8>, len: usize) -> Res
     ensures rest { IfOk result (λ bytes. HoldsRange (F.holds files.old) id 32 (drop 32 bytes.items)) }
     ensures size { IfOk result (λ bytes. length bytes.items ≡ len) }
     ensures error { IfErr result IsFailure }
+    ensures noted { RestMade result id (len - 32) (F.notes files.old) (F.notes files.new) }
     ensures kept { KeepsFiles F.Files files.old files.new }
     ensures open_faults { F.open_faults files.new ≡ F.open_faults files.old }
     ensures page_faults { CountsFault result (F.page_faults files.old) (F.page_faults files.new) }
@@ -81,6 +85,7 @@ fn load_found<F: Files>(alloc: Global, files: &mut F, id: u32, len: u64) -> Resu
     ensures image { IfOk result (λ loaded. IsImageOf (judged_image loaded.bytes.items) loaded.image) }
     ensures sound { IfOk result (λ loaded. IsSound loaded.image) }
     ensures size { IfOk result (λ loaded. length loaded.bytes.items ≡ file_length_of loaded.image) }
+    ensures noted { LoadMade result (F.holds files.old) id len (F.notes files.old) (F.notes files.new) }
     ensures kept { KeepsFiles F.Files files.old files.new }
     ensures faults { CountsFaults result (F.open_faults files.old) (F.open_faults files.new) (F.page_faults files.old) (F.page_faults files.new) }
 {
@@ -128,6 +133,8 @@ pub fn load_image<F: Files>(alloc: Global, files: &mut F, name: &str) -> Result<
     ensures image { IfOk result (λ loaded. IsImageOf (judged_image loaded.bytes.items) loaded.image) }
     ensures sound { IfOk result (λ loaded. IsSound loaded.image) }
     ensures size { IfOk result (λ loaded. length loaded.bytes.items ≡ file_length_of loaded.image) }
+    ensures asked { AsksImage name.now (F.holds files.old) (IsUnread result) (result ≡ Err Unread.NoMemory) (IsUnfit result) (F.notes files.old)
+        (F.notes files.new) }
     ensures kept { KeepsFiles F.Files files.old files.new }
     ensures faults { CountsFaults result (F.open_faults files.old) (F.open_faults files.new) (F.page_faults files.old) (F.page_faults files.new) }
 {

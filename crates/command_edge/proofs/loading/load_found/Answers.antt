@@ -1,4 +1,4 @@
-use Rattle.std.proofs.Common.{rules, ◌≡◌, ◌∙◌, ℕ, List, take, drop, Option, Result, Err, Vec, Global, subst, sym, arith}
+use Rattle.std.proofs.Common.{rules, ◌≡◌, ◌∙◌, ℕ, List, take, drop, Option, Result, Ok, Err, Vec, Global, subst, sym, ap, arith}
 use Rattle.io_edge.specs.FileHolding.{NamedFile, HoldsRange, bytes_at}
 use Rattle.aout_image.specs.Image.{judged_image, file_length_of}
 use Rattle.command_edge.specs.declared.answers.Headed.{Headed}
@@ -7,6 +7,8 @@ use Rattle.command_edge.specs.declared.answers.Unread.{Unread}
 use Rattle.command_edge.specs.Answering.{Answers, CountsFaults, FailsInOrder}
 use Rattle.command_edge.specs.Told.{image_in}
 use Rattle.command_edge.proofs.Fronts.{judged_is, told_image, rest_fails, image_of_front, joined, front_of_header, above_header, header_decides, header_fails, header_counts}
+use Rattle.command_edge.specs.Looks.{LoadMade}
+use Rattle.command_edge.proofs.ImageReads.{load_unheaded, load_unrested, load_whole}
 use Rattle.command_edge.proofs.loading.load_found.Goals as goal
 
 pub returns-clause-answers : goal.returns-clause-answers
@@ -76,3 +78,25 @@ returns-in_err-bytes-clause-order g c = λ list told size.
     (rest_fails (Vec ℕ Global) Loaded (image_in file (judged_image file)) c.in_err-bytes.field-0.0 _ _ _ _ _
     (told_image file (judged_image file) headed.image (c.in_ok-headed.ensures.judged file head (sym size)))
     (c.in_err-bytes.ensures.open_faults ∙ c.in_ok-headed.ensures.open_faults) c.in_ok-headed.ensures.page_faults c.in_err-bytes.ensures.page_faults)
+
+pub returns-clause-noted : goal.returns-clause-noted
+returns-clause-noted g c =
+    load_whole Loaded _ c.in_ok-headed.headed.image (g.F.Files.holds c.args.files.now) c.args.id c.args.len c.file_length.result (g.F.Files.notes c.args.files.now)
+    (g.F.Files.notes c.read_header.new.files) _ c.in_ok-headed.ensures.answers c.file_length.ensures.value c.in_ok-headed.ensures.noted c.in_ok-bytes.ensures.noted
+
+pub returns-in_err-headed-clause-noted : goal.returns-in_err-headed-clause-noted
+returns-in_err-headed-clause-noted g c =
+    let is : c.from_residual.result ≡ Err c.in_err-headed.field-0.0 = search rules in
+    subst (λ (r : Result Loaded Unread). LoadMade r (g.F.Files.holds c.args.files.now) c.args.id c.args.len (g.F.Files.notes c.args.files.now) (g.F.Files.notes c.read_header.new.files))
+    (sym is)
+    (load_unheaded Headed Loaded (λ headed. headed.image) c.in_err-headed.field-0.0 (g.F.Files.holds c.args.files.now) c.args.id c.args.len _ _ c.in_err-headed.ensures.error
+    c.in_err-headed.ensures.answers c.in_err-headed.ensures.noted)
+
+pub returns-in_err-bytes-clause-noted : goal.returns-in_err-bytes-clause-noted
+returns-in_err-bytes-clause-noted g c =
+    let is : c.from_residual-in_err-bytes.result ≡ Err c.in_err-bytes.field-0.0 = search rules in
+    subst (λ (r : Result Loaded Unread). LoadMade r (g.F.Files.holds c.args.files.now) c.args.id c.args.len (g.F.Files.notes c.args.files.now) (g.F.Files.notes c.read_rest.new.files))
+    (sym is)
+    (load_unrested (Vec ℕ Global) Loaded c.in_err-bytes.field-0.0 c.in_ok-headed.headed.image (g.F.Files.holds c.args.files.now) c.args.id c.args.len c.file_length.result
+    (g.F.Files.notes c.args.files.now) (g.F.Files.notes c.read_header.new.files) _ c.in_err-bytes.ensures.error c.in_ok-headed.ensures.answers c.file_length.ensures.value
+    c.in_ok-headed.ensures.noted c.in_err-bytes.ensures.noted)
