@@ -63,8 +63,11 @@ look_all look holds O Q U old new ended refused a = (new, look_for look holds O 
 pub look_bad : (fault : Fault) (look : Look) (holds : Option (List NamedFile)) (O Q U : Type 0) (old new : FileNotes) → StopsAt fault look
     → (IsNoImage fault → ⊥) → (O → ⊥) → (Q → ⊥) → AsksLook look holds O Q U old new → AsksUpTo fault (look ∷ []) holds old new
 look_bad fault look holds O Q U old new stops image ended refused a =
-    inr (inl (stops, look_for look holds O (IsLack fault) Q (fault ≡ faults.NoMemory) U (IsNoImage fault) old new (λ o. absurd (ended o)) (λ q. absurd (refused q))
-    (λ v. absurd (image v)) a))
+    inr (inl (
+      stops,
+      look_for look holds O (IsLack fault) Q (fault ≡ faults.NoMemory) U (IsNoImage fault) old new (λ o. absurd (ended o)) (λ q. absurd (refused q))
+          (λ v. absurd (image v)) a,
+    ))
 
 unread_is : {A : Type 0} (e : Unread) → (let r : Result A Unread = Err e in r) ≡ Err unreads.NoMemory → e ≡ unreads.NoMemory
 unread_is e same = cc
