@@ -345,7 +345,9 @@ int main(void)
 BAD_C = (
     ("int sum = 0;", "int sum = ;", 10, "syntax error"),
     ("#include <stdio.h>", "#include <stdoi.h>", 1, "cannot find"),
-    ("return a + b;", "return a + b * 1.5;", 5, "add needs floats"),
+    ("return a + b;", "return a + b * 1.5;", 5, "`1.5`: the machine has no floats"),
+    ("#include <stdio.h>", "#include <math.h>", 1, "math.h isn't in the library"),
+    ("int sum = 0;", "pid_t sum = 0;", 10, "`pid_t` is of sys/types.h, which isn't included"),
     ("sum = add(sum, n);", "sum = open(sum, n);", 12, "main needs open"),
 )
 

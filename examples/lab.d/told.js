@@ -55,7 +55,8 @@ function reasonOf(answer, form) {
 function reasonOfC(answer) {
   const lines = answer.said.split("\n").filter((line) => line !== "");
   const form = new RegExp(`^(?:cc: )?${answer.program}\\.c(?:, line |:)(\\d+): (?:error: )?(.*)$`);
-  const found = lines.map((line) => line.match(form)).find(Boolean);
+  // what `cc` says of a complaint of the compiler's stands below that, and says more
+  const found = [...lines.filter((line) => line.startsWith("cc: ")), ...lines].map((line) => line.match(form)).find(Boolean);
   return found ? [found[1], found[2]] : ["", (lines[0] || "the compiler ended").replace(/^(cc|vmrun): /, "")];
 }
 
