@@ -151,7 +151,7 @@ def read_operand(text):
     value = read_number(found["value"]) if found["value"] else 0
     if found["register"]:
         return displaced(value, found["symbol"], REGISTERS[found["register"]], found["star"])
-    if found["star"] or found["symbol"] is None:
+    if found["star"] or found["symbol"] is None and not re.fullmatch(r"-?\d+|0x[0-9a-f]+", text):
         raise ValueError(text)
     return Operand("*${}", value, found["symbol"])
 

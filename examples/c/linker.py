@@ -6,7 +6,8 @@ import struct
 import subprocess
 import tempfile
 
-from compiler_text import BRANCHES, OPERANDS, SIZES, Refused
+from compiler_text import BRANCHES, OPERANDS, SIZES, Operand, Refused, Step, constant
+from constructs import of_function
 
 PAGE = 1024
 START = "start"
@@ -69,7 +70,7 @@ class Program:
                 if other is None:
                     at = ":" + str(line) if line else ""
                     raise Refused(f"{unit.file}{at}: {unit.name} needs {symbol}, which neither these files nor the "
-                                  "library of examples/c has")
+                                  "library of examples/c has" + of_function(symbol))
                 if id(other) not in found:
                     found.add(id(other))
                     waiting.append(other)
@@ -86,6 +87,31 @@ def uses(unit):
                     yield operand.symbol, part.line
         elif isinstance(part, tuple) and part[1].symbol is not None:
             yield part[1].symbol, 0
+
+
+# the variable of the library's time.c that has the count of instructions
+COUNT = "__instructions"
+
+
+def count_steps(unit):
+    """Puts before each piece of a function that runs as a whole a step that adds its instructions to the count, itself too. A piece begins
+    at the entry, at a label and behind a jump. Where a jump comes first the codes are of what ran before, and no step goes there."""
+    pieces = [[]]
+    for step in unit.body:
+        if step.kind in ("label", "word"):
+            pieces[-1].append(step)
+            pieces.append([])
+            continue
+        pieces[-1].append(step)
+        if step.kind == "jump" or step.name in ("ret", "rsb", "jmp"):
+            pieces.append([])
+    body = []
+    for piece in pieces:
+        if piece and piece[0].kind == "instruction":
+            many = 1 + sum(step.kind in ("instruction", "jump") for step in piece)
+            body.append(Step("instruction", "addl2", [constant(many), Operand("*${}", 0, COUNT)], piece[0].line))
+        body += piece
+    unit.body = body
 
 
 def step_size(step, far):
@@ -207,6 +233,10 @@ class Layout:
         units = program.reached()
         segments = {name: [unit for unit in units if unit.segment == name] for name in ("text", "constant", "data", "zeros")}
         self.functions = segments["text"]
+        if any(unit.name == COUNT for unit in units):
+            for unit in self.functions:
+                if unit.file != "start.s":
+                    count_steps(unit)
         self.constants = segments["constant"]
         self.objects = segments["data"]
         at = 0

@@ -106,7 +106,7 @@ def by_keys(check, browser, lab):
         browser.key(key)
     step = browser.value("document.body.dataset.step")
     check.same("whether a key in the source steps", step, "0")
-    check.same("whether the run's end is told", shown(browser, "lab-bounds"), "A run is ended after 60 seconds.")
+    check.same("whether the run's end is told", shown(browser, "lab-bounds"), "A run is ended after 20 seconds.")
     asked = [it["params"]["request"]["url"] for it in browser.events if it["method"] == "Network.requestWillBeSent"]
     check.same("what is fetched from elsewhere", [it for it in asked if not it.startswith((lab.address, "data:", "blob:"))], [])
     thrown = [it["params"]["exceptionDetails"]["text"] for it in browser.events if it["method"] == "Runtime.exceptionThrown"]
@@ -129,7 +129,7 @@ def by_more(check, browser, folder):
     with open(f"{folder}/more", "w", encoding="ascii") as it:
         it.write(MORE.replace("$PROGRAM", os.path.abspath(launcher())))
     os.chmod(f"{folder}/more", stat.S_IRWXU)
-    with Lab(f"{folder}/more", 60) as lab:
+    with Lab(f"{folder}/more", None) as lab:
         browser.open(lab.address)
         browser.wait_for("document.body.dataset.ready === 'yes'", 20)
         run(browser)

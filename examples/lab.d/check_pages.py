@@ -5,10 +5,12 @@ import json
 import os
 import re
 import subprocess
+import tempfile
+import time
 
 import setups
 from check_student import MARKED, TABS
-from checking import EXAMPLES, choose, idle, make, program_said, run, shown, transcript, write
+from checking import EXAMPLES, Lab, choose, idle, make, program_said, run, shown, transcript, write
 
 VALUE = "document.getElementById('%s').value"
 STALE = "Object.fromEntries(['transcript', 'plot', 'stats'].map((it) => [it, document.getElementById(`lab-${it}-part`).classList.contains('stale')]))"
@@ -77,6 +79,11 @@ def by_results(check, browser, lab):
         check.same("whether that is told", told, "Not of what stands above: that has changed since.")
         write(browser, f"lab-{field}", old)
         check.same(f"what is grey at the old {field}", browser.value(STALE), fresh)
+    for button, name in (("lab-run", "transcript"), ("lab-faults", "plot"), ("lab-stats", "stats")):
+        told = browser.value(f"(() => {{ document.getElementById('{button}').click(); return [{STALE}, document.getElementById('lab-{name}-stale').textContent]; }})()")
+        check.same(f"what is grey while a new {name} is made", told, [fresh | {name: True}, "Of a run before: a new one is being made."])
+        idle(browser)
+        check.same(f"what is grey when the new {name} is there", browser.value(STALE), fresh)
     browser.value("document.getElementById('lab-example').focus()")
     choose(browser, "lab-example", "hi: ")
     check.same("what is grey at an example", browser.value(STALE), stale)
@@ -129,7 +136,8 @@ def by_ends(check, browser, lab):
         browser.key("End")
         idle(browser)
         check.same(f"what is told of {source!r}", told in shown(browser, "told"), True)
-        check.same("and of its run", "Over: each process has ended" in shown(browser, "lab-result"), True)
+        result = f"Over: each process has ended, after 1 instruction. Process 1 was ended by {told}"
+        check.same("and of its run", shown(browser, "lab-result").partition(". ")[2].replace("after 2 instructions", "after 1 instruction"), result)
         check.same("and at its last step", "The run is over: each process has ended." in shown(browser, "told"), True)
 
 
@@ -171,8 +179,32 @@ def by_kept(check, browser, lab):
     click(browser, "lab-back")
     back = browser.value(f"[{VALUE % 'lab-source'}, {VALUE % 'lab-frames'}, {VALUE % 'lab-schedule'}, {TABS}]")
     check.same("what is there when that is taken back", back, kept)
+    by_another_server(check, browser)
+    browser.open(lab.address)
+    browser.wait_for("document.body.dataset.ready === 'yes'", 20)
     click(browser, "lab-new")
     check.same("a new page", (browser.value(TABS), browser.value(VALUE % "lab-frames")), (["mine"], "64"))
+
+
+def by_another_server(check, browser):
+    """What the page has is there again when the server ends and another one begins, at another port; what was written last is."""
+    source = f"[{VALUE % 'lab-source'}, {VALUE % 'lab-limit'}, {TABS}]"
+    with tempfile.TemporaryDirectory() as kept:
+        for limit in ("701", "702"):
+            with Lab(os.environ.get("VMRUN"), None, kept=kept) as lab:
+                begin(browser, lab)
+                write(browser, "lab-source", f"{WRITES}# {limit}\n")
+                write(browser, "lab-limit", limit)
+                wanted = browser.value(source)
+                for _ in range(100):
+                    if limit in lab.request("kept")[2].decode():
+                        break
+                    time.sleep(0.05)
+            with Lab(os.environ.get("VMRUN"), None, kept=kept) as lab:
+                browser.open(lab.address)
+                browser.wait_for("document.body.dataset.ready === 'yes'", 20)
+                check.same("what is there at another port", (browser.value(source), shown(browser, "lab-result")), (wanted, "What this page had before is here again."))
+        check.same("who else may read what is kept", [oct(os.stat(f"{kept}/{it}").st_mode & 0o77) for it in ("vmrun-lab", "vmrun-lab/kept")], ["0o0", "0o0"])
 
 
 def by_card(check, browser, lab):
@@ -313,7 +345,9 @@ int main(void)
 BAD_C = (
     ("int sum = 0;", "int sum = ;", 10, "syntax error"),
     ("#include <stdio.h>", "#include <stdoi.h>", 1, "cannot find"),
-    ("return a + b;", "return a + b * 1.5;", 5, "add needs floats"),
+    ("return a + b;", "return a + b * 1.5;", 5, "`1.5`: the machine has no floats"),
+    ("#include <stdio.h>", "#include <math.h>", 1, "math.h isn't in the library"),
+    ("int sum = 0;", "pid_t sum = 0;", 10, "`pid_t` is of sys/types.h, which isn't included"),
     ("sum = add(sum, n);", "sum = open(sum, n);", 12, "main needs open"),
 )
 

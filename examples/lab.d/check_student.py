@@ -130,6 +130,36 @@ def by_registers(check, browser, folder, pictures):
         browser.key("ArrowRight")
 
 
+# An instruction of one byte at each address from 2 to 0x1fe, and at 0x1ff one of three, that goes to address 0: the mask there is a pair of
+# such instructions too, which the listing, from 2 on, doesn't have.
+EACH = ".word 0x0101\n" + 509 * "nop\n" + "brw l0\n"
+
+
+def by_each_address(check, browser, folder):
+    """With an instruction at each address from 0 to 0x1ff the one that is shown is at each step the one at the PC."""
+    browser.value("document.getElementById('lab-new').click()")
+    idle(browser)
+    source = "l0: " + EACH
+    steps = 520 * "d 1 1\ni\n"
+    for name, text in (("lab-source", source), ("lab-limit", "520"), ("lab-schedule", steps)):
+        write(browser, name, text)
+    run(browser)
+    make(folder, "mine", source)
+    listed = {int(line[:8], 16): line for line in program_said(folder, "dis", "mine").splitlines() if not line.startswith("end ")}
+    check.same("where the listing has instructions", sorted(listed), list(range(2, 0x200)))
+    many = int(shown(browser, "lab-transcript-count").split(" ")[0].replace(",", ""))
+    browser.key("Home")
+    idle(browser)
+    seen = {}
+    for _ in range(many):
+        browser.key("ArrowRight")
+        idle(browser)
+        for _, line, values, _ in browser.value(REGISTERS):
+            seen.setdefault(values[15], set()).add(line)
+    check.same("the addresses that were stepped over", sorted(seen), list(range(0x200)))
+    check.same("the instruction that is shown at each", {at: told for at, told in seen.items() if told != {listed.get(at)}}, {})
+
+
 def by_plot(check, browser, folder, words):
     """The plot's table has what the program answers, of each policy and of the run itself; the plot tells of what it is, names both of its
     axes, and is as wide as there is room."""
@@ -155,8 +185,32 @@ def by_plot(check, browser, folder, words):
             check.same(f"the run's faults with {frames} frames", [own, bare], [str(many + letters.count("R")), str(many)])
     check.same("whether the run's own size is there", int(words[0]) in sizes or int(words[0]) > sizes[-1], True)
     check.same("the lines of the plot", browser.value("document.querySelectorAll('#lab-plot polyline').length"), 7)
+    by_marks(check, browser)
     check.same("the names of its axes", browser.value("[...document.querySelectorAll('#lab-plot .name')].map((it) => it.textContent)"), ["page frames", "page faults"])
     check.same("whether it is as wide as its place", browser.value("Math.abs(document.querySelector('#lab-plot svg').clientWidth - document.getElementById('lab-plot').clientWidth) < 2"), True)
+
+
+# Of each line of the plot its dashes and the form of its marks; and of each mark its line, its place and whether it is in sight, on top.
+FORMS = """[...document.querySelectorAll("#lab-plot polyline")].map((it) => [
+    getComputedStyle(it).strokeDasharray, document.querySelector(`#lab-plot .lab-mark.${it.classList[0]}`)?.getAttribute("d") ?? null])"""
+MARKS = """(() => {
+    document.getElementById("lab-plot").scrollIntoView({ block: "center" });
+    return [...document.querySelectorAll("#lab-plot .lab-mark")].map((it) => {
+        const box = it.getBoundingClientRect();
+        const [x, y] = [box.left + box.width / 2, box.top + box.height / 2];
+        return [it.classList[1], Math.round(x), Math.round(y), document.elementsFromPoint(x, y).find((one) => one.classList.contains("lab-mark")) === it];
+    });
+})()"""
+
+
+def by_marks(check, browser):
+    """Without their colours the lines of the plot tell apart by their marks and dashes, as in the legend, and each has a mark in sight,
+    also where it lies on another one."""
+    forms = browser.value(FORMS)
+    check.same("how many lines tell apart without colour", (len({form for _, form in forms if form}), len({dashes for dashes, _ in forms})), (7, 7))
+    check.same("the marks of the legend", browser.value("[...document.querySelectorAll('#lab-plot-legend .lab-mark')].map((it) => it.getAttribute('d'))"), [form for _, form in forms])
+    in_sight = {line for line, _, _, is_seen in browser.value(MARKS) if is_seen}
+    check.same("the lines with a mark in sight", len(in_sight), 7)
 
 
 def paste(browser, name, text):
@@ -195,7 +249,13 @@ def by_size_of_texts(check, browser):
 
 
 def by_mistake(check, browser):
-    """A bad schedule, a bad number and a bad image are told where they stand."""
+    """A bad schedule, a bad number and a bad image are told where they stand, a schedule's line as soon as the writer pauses."""
+    write(browser, "lab-schedule", "d 1 5\nh 0\n")
+    browser.wait_for("document.getElementById('lab-schedule-said').textContent !== ''", 20)
+    idle(browser)
+    check.same("a bad schedule at a pause", (shown(browser, "lab-schedule-said"), browser.value(MARKED % ("schedule", "bad"))), ("line 2: N of h is 0: 1 to 8192", ["2"]))
+    write(browser, "lab-schedule", "d 1 5\nh 1\n")
+    check.same("whether it is marked when it is mended", (shown(browser, "lab-schedule-said"), browser.value(MARKED % ("schedule", "bad"))), ("", []))
     write(browser, "lab-schedule", "d 1 5\nh 0\n")
     run(browser)
     check.same("a bad schedule", shown(browser, "lab-schedule-said"), "line 2: N of h is 0: 1 to 8192")
@@ -204,12 +264,20 @@ def by_mistake(check, browser):
     write(browser, "lab-frames", "63")
     run(browser)
     check.same("a bad number", shown(browser, "lab-machine-said"), "FRAMES is 63: 64 to 4096")
-    invalid = "[...document.querySelectorAll('#lab-work [aria-invalid]')].map((it) => it.id)"
+    check.same("and beside Run", shown(browser, "lab-result"), "Status 1: FRAMES is 63: 64 to 4096")
+    invalid = "[...document.querySelectorAll('#lab-machine-words [aria-invalid], .lab-wide [aria-invalid]')].map((it) => it.id)"
     check.same("the field that says so", browser.value(invalid), ["lab-frames"])
     write(browser, "lab-frames", "64")
-    write(browser, "lab-images", "mine nosuch")
+    for images, names in (("mine nosuch", "name nosuch"), ("mine,mine hi", "name mine,mine"), ("one =two one mine", "names one, two"), ("mine2", "name mine2")):
+        for button in ("lab-run", "lab-faults", "lab-stats"):
+            write(browser, "lab-images", images)
+            browser.value(f"document.getElementById('{button}').click()")
+            told = f"no program of this page, and no example, has the {names}"
+            check.same(f"the images {images} by {button}", (shown(browser, "lab-result"), shown(browser, "lab-machine-said"), browser.value(invalid)), (told, told, ["lab-images"]))
+    write(browser, "lab-images", "=mine")
     run(browser)
-    check.same("a bad image", "no program of this page, and no example, has this name" in shown(browser, "lab-result"), True)
+    told = shown(browser, "lab-machine-said")
+    check.same("images of which none starts", (shown(browser, "lab-result"), "--help" in told, told != ""), (f"Status 1: {told}", False, True))
     write(browser, "lab-images", "mine")
 
 

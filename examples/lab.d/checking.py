@@ -13,6 +13,8 @@ HERE = os.path.dirname(os.path.realpath(__file__))
 EXAMPLES = os.path.dirname(HERE)
 LAB = f"{EXAMPLES}/lab"
 SECONDS = 4
+# root's own rights, as that to raise a limit, are given up: an ordinary user hasn't them
+UNPRIVILEGED = ["setpriv", "--bounding-set=-all", "--inh-caps=-all"] if os.geteuid() == 0 else []
 
 
 class Check:
@@ -30,11 +32,12 @@ class Check:
 
 
 class Lab:
-    """A server of the page, for as long as its block."""
+    """A server of the page, for as long as its block, without privilege. With no seconds it is as a user begins it."""
 
-    def __init__(self, program, seconds=SECONDS, folder=None, **how):
-        around = os.environ | ({"VMRUN": program} if program else {}) | ({"TMPDIR": folder} if folder else {})
-        words = [LAB, "--no-open", "--seconds", str(seconds)]
+    def __init__(self, program, seconds=SECONDS, folder=None, kept=None, **how):
+        self.state = tempfile.TemporaryDirectory(prefix="lab-state-")
+        around = os.environ | {"XDG_STATE_HOME": kept or self.state.name} | ({"VMRUN": program} if program else {}) | ({"TMPDIR": folder} if folder else {})
+        words = [*UNPRIVILEGED, LAB, "--no-open", *(["--seconds", str(seconds)] if seconds else [])]
         self.said = tempfile.TemporaryFile("w+", encoding="utf-8")
         self.process = subprocess.Popen(words, env=around, stdout=subprocess.PIPE, stderr=self.said, text=True, **how)
         self.address = self.process.stdout.readline().strip()
@@ -52,6 +55,7 @@ class Lab:
         self.process.wait(60)
         self.process.stdout.close()
         self.said.close()
+        self.state.cleanup()
 
     def says(self):
         """What it wrote to standard error."""

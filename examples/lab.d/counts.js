@@ -1,8 +1,8 @@
 // The table of counts of a run.
 import { asked } from "./ask.js";
-import { hasFailed, hasResult } from "./results.js";
+import { hasFailed, hasResult, isAsked } from "./results.js";
 import { setup, tellResult } from "./state.js";
-import { tellBad, tellEmpty } from "./told.js";
+import { tellBad, tellFields, tellMachine } from "./told.js";
 
 export function cellsOf(kind, words) {
   const row = element("tr");
@@ -44,8 +44,10 @@ function tableOf({ head, body }) {
 }
 
 export async function count() {
-  if (tellEmpty()) return;
+  tellMachine("", "");
+  if (tellFields()) return;
   const given = setup();
+  isAsked("stats");
   const answer = await asked("stats", given, "Counting ..");
   if (!answer?.rows) {
     hasFailed("stats");

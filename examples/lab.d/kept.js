@@ -1,4 +1,5 @@
-// What is kept: over a reload of the page, in files, and what a load took the place of.
+// What is kept: over a reload of the page and for a later server, in files, and what a load took the place of.
+import { post } from "./ask.js";
 import { addLoaded, load } from "./programs.js";
 import { FIELDS, current, lab, setup, tellResult } from "./state.js";
 
@@ -23,36 +24,77 @@ function read(text) {
 }
 
 let pause = 0;
+let pauseOfServer = 0;
 
-// Keeps what the page has, for a reload. Where the browser keeps nothing, or not so much, that is told once.
+// Keeps what the page has, in the browser for a reload, and by the server, whose file is there for a server at another address too.
 export function keep() {
   clearTimeout(pause);
-  pause = setTimeout(keepNow, 300);
+  clearTimeout(pauseOfServer);
+  pause = setTimeout(keepHere, 300);
+  pauseOfServer = setTimeout(keepThere, 1000);
 }
 
 let told = false;
 
-export function keepNow() {
-  clearTimeout(pause);
+function tellNotKept(error) {
+  if (!told) tellResult(`This work isn't kept for another time, use Save all: ${error.message}`, true);
+  told = true;
+}
+
+const kept = () => JSON.stringify({ ...written(), at: Date.now() });
+
+// Where the browser keeps nothing, or not so much, the server does.
+function keepHere() {
   if (lab.programs.length === 0) return;
   try {
-    localStorage.setItem(PLACE, JSON.stringify(written()));
+    localStorage.setItem(PLACE, kept());
   } catch {
-    if (!told) tellResult("The browser doesn't keep so much over a reload: use Save all.", true);
-    told = true;
+    localStorage.removeItem(PLACE);
   }
 }
 
-// Whether there was work of before, which is put into the page.
-export function loadKept() {
+async function keepThere() {
+  if (lab.programs.length === 0) return;
   try {
-    const text = localStorage.getItem(PLACE);
-    if (text === null) return false;
-    load(read(text));
-    return true;
-  } catch {
-    return false;
+    await post("keep", { kept: kept() });
+  } catch (error) {
+    tellNotKept(error);
   }
+}
+
+// As the page is left.
+export function keepNow() {
+  clearTimeout(pause);
+  keepHere();
+}
+
+// When a text was kept; nothing where it is none.
+function timeOf(text) {
+  try {
+    return JSON.parse(text)?.at ?? 0;
+  } catch {
+    return 0;
+  }
+}
+
+// What is kept in the browser, and what by the server, the newer one first.
+async function keptTexts() {
+  const texts = [await (await fetch("kept")).text()];
+  try {
+    texts.push(localStorage.getItem(PLACE) ?? "null");
+  } catch {}
+  return texts.filter((text) => timeOf(text) > 0).sort((a, b) => timeOf(b) - timeOf(a));
+}
+
+// Whether there was work of before, which is put into the page.
+export async function loadKept() {
+  for (const text of await keptTexts()) {
+    try {
+      load(read(text));
+      return true;
+    } catch {}
+  }
+  return false;
 }
 
 // What the page had before loads, the last one last.

@@ -7,7 +7,7 @@ import { numberLines, schedule, source, tellEditor, textOf, watchLength } from "
 import { goBack, keep, keepNow, loadFile, loadKept, remember, saveAll, saveProgram } from "./kept.js";
 import { drawLessons } from "./lessons.js";
 import { plot, watchPlot } from "./plot.js";
-import { addProgram, changed, chooseProgram, closeProgram, load } from "./programs.js";
+import { addProgram, changed, checkScheduleSoon, chooseProgram, closeProgram, load } from "./programs.js";
 import { drawStale } from "./results.js";
 import { countCourse, drawLines, drawStep, goBeyond, goTo, MAY, run, seekEventOn, seekOn } from "./run.js";
 import { ended, FIELDS, FIRST, lab, tellResult } from "./state.js";
@@ -123,6 +123,7 @@ at("lab-tabs").addEventListener("keydown", (event) => {
 function changedSchedule() {
   tellEditor(schedule, 0, "");
   numberLines(schedule);
+  checkScheduleSoon();
   keep();
   drawStale();
 }
@@ -183,7 +184,7 @@ async function begin() {
   at("lab-bounds").textContent = `A run is ended after ${lab.beginning.seconds} seconds.`;
   drawLessons();
   drawCard();
-  if (loadKept()) tellResult("What this page had before is here again.", false);
+  if (await loadKept()) tellResult("What this page had before is here again.", false);
   else loadFirst();
   document.body.dataset.ready = "yes";
 }

@@ -1,19 +1,23 @@
 // The plot of page faults by page frames.
 import { asked } from "./ask.js";
 import { cellsOf } from "./counts.js";
-import { hasFailed, hasResult } from "./results.js";
+import { hasFailed, hasResult, isAsked } from "./results.js";
 import { setup, tellResult } from "./state.js";
-import { tellBad, tellEmpty } from "./told.js";
+import { tellBad, tellFields, tellMachine } from "./told.js";
 
+// Each line has a name, its words, its value in a row, and the form of its marks, around 0 0. By the marks lines tell apart without their
+// colours, and where they lie on each other: those of one line stand beside those of the others.
 const LINES = [
-  ["fifo", "FIFO", (row) => row.fifo],
-  ["clock", "clock", (row) => row.clock],
-  ["hands", "two hands", (row) => row.hands],
-  ["lru", "LRU", (row) => row.lru],
-  ["least", "the fewest of any (OPT)", (row) => row.least],
-  ["own", "the run, with its reclaims", (row) => (row.bare === undefined ? undefined : row.bare + row.reclaims)],
-  ["bare", "the run, without them", (row) => row.bare],
+  ["fifo", "FIFO", (row) => row.fifo, "M-4 -4h8v8h-8z"],
+  ["clock", "clock", (row) => row.clock, "M0 -5L5 4H-5z"],
+  ["hands", "two hands", (row) => row.hands, "M0 5L5 -4H-5z"],
+  ["lru", "LRU", (row) => row.lru, "M-4.5 0a4.5 4.5 0 1 0 9 0a4.5 4.5 0 1 0 -9 0z"],
+  ["least", "the fewest of any (OPT)", (row) => row.least, "M0 -5.5L5.5 0L0 5.5L-5.5 0z"],
+  ["own", "the run, with its reclaims", (row) => (row.bare === undefined ? undefined : row.bare + row.reclaims), "M-4 -4L4 4M4 -4L-4 4"],
+  ["bare", "the run, without them", (row) => row.bare, "M-5 0H5M0 -5V5"],
 ];
+// how far marks of two lines are apart, in points
+const APART = 17;
 
 const PLOT = { width: 760, height: 360, left: 78, right: 14, top: 14, bottom: 44 };
 let faults = null;
@@ -40,6 +44,37 @@ function drawAxes(svg, x, y, wide, high) {
   svg.append(shape("text", { class: "name", x: 14, y: middle, "text-anchor": "middle", transform: `rotate(-90 14 ${middle})` }, "page faults"));
 }
 
+// The mark of a line at a place.
+function markOf(kind, x, y) {
+  const [, , , form] = LINES.find(([name]) => name === kind);
+  return shape("path", { class: `lab-mark lab-${kind}`, d: form, transform: `translate(${x.toFixed(1)} ${y.toFixed(1)})` });
+}
+
+// The place of a line above this x, between the two points beside it.
+function placeAt(points, x) {
+  const next = points.findIndex(([there]) => there >= x);
+  const [[x1, y1], [x2, y2]] = [points[Math.max(0, next - 1)], points[next]];
+  return x2 === x1 ? [x1, y1] : [x, y1 + ((y2 - y1) * (x - x1)) / (x2 - x1)];
+}
+
+// The places of the marks of a line, those of a further line beside them. A line that is too short for any has one at each of its ends.
+function marksOf(points, index, right) {
+  if (points.length === 0) return [];
+  const [first, last] = [points[0][0], points[points.length - 1][0]];
+  const marks = [];
+  for (let x = PLOT.left + APART * (index + 0.5); x <= Math.min(last, right); x += APART * LINES.length) if (x >= first) marks.push(placeAt(points, x));
+  return marks.length > 0 ? marks : [points[0], points[points.length - 1]];
+}
+
+// What a line means, beside a piece of it.
+function legendOf([kind, words]) {
+  const it = element("li", "", "");
+  const svg = shape("svg", { width: 36, height: 14, "aria-hidden": "true" });
+  svg.append(shape("polyline", { class: `lab-${kind}`, points: "0,7 36,7" }), markOf(kind, 18, 7));
+  it.append(svg, words);
+  return it;
+}
+
 // The faults at each size of memory, as wide as there is room. The smallest sizes stand in the table alone, where there are more: there
 // nearly every reference is a fault.
 export function drawPlot() {
@@ -57,13 +92,12 @@ export function drawPlot() {
   const svg = shape("svg", { width, height, role: "img", "aria-labelledby": "lab-plot-title lab-plot-of" });
   drawAxes(svg, x, y, wide, high);
   if (own <= wide) svg.append(shape("line", { class: "here", x1: x(own), x2: x(own), y1: top, y2: height - bottom }));
-  for (const [kind, , points] of lines) {
-    svg.append(shape("polyline", { class: `lab-${kind}`, points: points.map(([frames, faults]) => `${x(frames).toFixed(1)},${y(faults).toFixed(1)}`).join(" ") }));
-    const here = points.find(([frames]) => frames === own) || (points.length === 1 ? points[0] : null);
-    if (here) svg.append(shape("circle", { class: `lab-${kind}`, cx: x(here[0]), cy: y(here[1]), r: 4 }));
-  }
+  const drawn = lines.map(([kind, , points]) => [kind, points.map(([frames, faults]) => [x(frames), y(faults)])]);
+  for (const [kind, points] of drawn)
+    svg.append(shape("polyline", { class: `lab-${kind}`, points: points.map(([x, y]) => `${x.toFixed(1)},${y.toFixed(1)}`).join(" ") }));
+  drawn.forEach(([kind, points], index) => svg.append(...marksOf(points, index, width - right).map(([x, y]) => markOf(kind, x, y))));
   at("lab-plot").replaceChildren(svg);
-  at("lab-plot-legend").replaceChildren(...lines.map(([kind, words]) => element("li", `lab-${kind}`, words)));
+  at("lab-plot-legend").replaceChildren(...lines.map(legendOf));
   const cells = rows.map((row) => cellsOf("td", [row.frames, ...LINES.map(([, , value]) => value(row) ?? "")]));
   at("lab-plot-table").replaceChildren(cellsOf("th", ["frames", ...LINES.map(([, words]) => words)]), ...cells);
 }
@@ -75,8 +109,10 @@ function partWords({ cut, references, pages }) {
 }
 
 export async function plot() {
-  if (tellEmpty()) return;
+  tellMachine("", "");
+  if (tellFields()) return;
   const given = setup();
+  isAsked("plot");
   const answer = await asked("faults", given, "Counting faults at each size of memory ..");
   if (!answer?.rows) {
     hasFailed("plot");

@@ -3,8 +3,8 @@ import { ask } from "./ask.js";
 import { fill, numberLines, schedule, source, tellEditor, textOf } from "./editor.js";
 import { keep, remember } from "./kept.js";
 import { drawStale } from "./results.js";
-import { current, FIELDS, FIRST, lab, tellResult } from "./state.js";
-import { tellBad, tellMachine } from "./told.js";
+import { current, FIELDS, FIRST, lab, setup, tellResult } from "./state.js";
+import { tellBad, tellMachine, tellSchedule } from "./told.js";
 
 const KINDS = { source: "", c: ".c", image: " (image)" };
 
@@ -112,19 +112,48 @@ export async function check() {
   else tellBad(answer);
 }
 
+// Marks what is bad in the schedule that is being written.
+async function checkSchedule() {
+  const typed = ++schedules;
+  let answer;
+  try {
+    answer = await ask("schedule", { schedule: setup().schedule });
+  } catch {
+    return;
+  }
+  if (typed === schedules && answer.status === 4 && !answer.cut) tellSchedule(answer);
+}
+
 let pause = 0;
+let pauseOfSchedule = 0;
+let schedules = 0;
+
+export function checkScheduleSoon() {
+  checkScheduleNoMore();
+  pauseOfSchedule = setTimeout(checkSchedule, 700);
+}
+
+function checkScheduleNoMore() {
+  clearTimeout(pauseOfSchedule);
+  schedules++;
+}
+
+function checkSourceNoMore() {
+  clearTimeout(pause);
+  lab.typed++;
+}
 
 // No check that is waited for comes any more.
 export function checkNoMore() {
-  clearTimeout(pause);
-  lab.typed++;
+  checkSourceNoMore();
+  checkScheduleNoMore();
 }
 
 export function changed() {
   if (current().kind === "image") return;
   current().text = textOf(source);
   numberLines(source);
-  checkNoMore();
+  checkSourceNoMore();
   pause = setTimeout(check, current().kind === "c" ? 1200 : 700);
   keep();
   drawStale();

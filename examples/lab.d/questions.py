@@ -1,10 +1,13 @@
 """What a page may ask of a run. Each answer is the program's; what is counted here are lines that it wrote."""
 import json
 import re
+import shutil
 
 import lessons
 from runs import Refused
-from setups import NAMES, NO_COMPILER, SOURCES, Program, Setup, bad, has_compiler, known, lines_of, make, prepare, write
+from setups import (
+    NAMES, NO_COMPILER, SOURCES, Program, Setup, bad, ended, has_compiler, known, lines_of, make, prepare, schedule_of, write,
+)
 
 # how many steps a film may have, by the frames of its machine
 MOST_STEPS = ((256, 400), (1024, 100), (4096, 30))
@@ -32,6 +35,14 @@ def ask_check(run, asked):
     return {"status": 0, "program": name, "listing": answer.text()}
 
 
+def ask_schedule(run, asked):
+    """Whether the lines of a schedule are good, which the program reads before anything runs."""
+    [image, *_] = lessons.IMAGES
+    write(run.folder, "schedule", ended(schedule_of(asked)).encode(errors="replace"))
+    shutil.copyfile(f"{lessons.EXAMPLES}/{image}", f"{run.folder}/{image}")
+    return bad(run.launched("owners", "0", "64", "256", "1", "schedule", image))
+
+
 def names_of(setup):
     """The names of the images that a process begins with."""
     return [image for image in dict.fromkeys(setup.images) if not image.startswith("=")]
@@ -44,11 +55,13 @@ def listings(run, setup):
 
 
 def ending(transcript, many):
-    """How a run ended, by its transcript: how many instructions ran, of which each call that was answered and each end is one, and which
-    processes have not ended. At first there are many, and more by fork and vfork."""
+    """How a run ended, by its transcript: how many instructions ran, of which each call that was answered and each end is one, which
+    processes have not ended, and which a signal ended, with its status. At first there are many, and more by fork and vfork."""
     ran = sum(map(int, re.findall(r"(?m)^r \d+ (\d+)$", transcript))) + len(re.findall(r"(?m)^[cx] ", transcript))
     begun = {*range(1, many + 1), *map(int, re.findall(r"(?m)^c \d+ (?:2|66) 0 (\d+) ", transcript))}
-    return {"ran": ran, "left": sorted(begun - set(map(int, re.findall(r"(?m)^x (\d+) ", transcript))))}
+    ends = [(int(pid), int(status)) for pid, status in re.findall(r"(?m)^x (\d+) (\d+)$", transcript)]
+    signals = [(pid, status) for pid, status in ends if status % 256]
+    return {"ran": ran, "left": sorted(begun - {pid for pid, _ in ends}), "signals": signals}
 
 
 def bad_run(run, setup, answer, **more):
@@ -194,7 +207,7 @@ def ask_stats(run, asked):
     return {"status": 0, "rows": [line.split(" ") for line in answer.text().splitlines()]}
 
 
-QUESTIONS = {"check": ask_check, "run": ask_run, "film": ask_film, "course": ask_course, "faults": ask_faults, "stats": ask_stats}
+QUESTIONS = {"check": ask_check, "schedule": ask_schedule, "run": ask_run, "film": ask_film, "course": ask_course, "faults": ask_faults, "stats": ask_stats}
 
 
 def has_stats(run):

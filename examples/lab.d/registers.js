@@ -5,9 +5,13 @@ const NAMES = [...Array.from({ length: 12 }, (_, index) => `r${index}`), "ap", "
 const FORKS = ["2", "66"];
 const EXECVE = "59";
 
-// The lines of each listing by the address that they begin with.
+// A line of a listing that has an instruction: its address in eight digits, a space and the instruction. The last line, `end` and an
+// address, has none.
+const LISTED = /^([0-9a-f]{8}) ./;
+
+// The lines of each listing by the addresses of their instructions.
 export function listingsOf(listings) {
-  const byAddress = (listing) => new Map(listing.split("\n").map((line) => [parseInt(line, 16), line]));
+  const byAddress = (listing) => new Map(listing.split("\n").filter((line) => LISTED.test(line)).map((line) => [parseInt(line.match(LISTED)[1], 16), line]));
   return new Map(Object.entries(listings).map(([name, listing]) => [name, byAddress(listing)]));
 }
 

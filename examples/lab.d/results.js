@@ -22,14 +22,20 @@ export function wordsOf({ images, frames, swap, limit, schedule }) {
 
 // Says that a result is here, of this setup.
 export function hasResult(name, given) {
-  results[name] = { key: keyOf(given), failed: false };
+  results[name] = { key: keyOf(given), asked: false, failed: false };
   at(`lab-${name}-of`).textContent = wordsOf(given);
+  drawStale();
+}
+
+// Says that a result is asked for anew: until it is here the one that is shown is an older one.
+export function isAsked(name) {
+  if (results[name]) results[name].asked = true;
   drawStale();
 }
 
 // Says that what was asked for anew has failed, so that the result that is here is an older one.
 export function hasFailed(name) {
-  if (results[name]) results[name].failed = true;
+  if (results[name]) Object.assign(results[name], { asked: false, failed: true });
   drawStale();
 }
 
@@ -38,15 +44,18 @@ export function dropResult(name) {
   drawStale();
 }
 
+const CHANGED = "Not of what stands above: that has changed since.";
+const wordsOfStale = ({ asked, failed }) => (asked ? "Of a run before: a new one is being made." : failed ? "Of a run before: the last one failed." : CHANGED);
+
 // Marks each result that is not of what the page has now.
 export function drawStale() {
   if (lab.programs.length === 0) return;
   const key = keyOf(setup());
   for (const [name, ids] of Object.entries(PARTS)) {
     const result = results[name];
-    const stale = result !== undefined && (result.failed || result.key !== key);
+    const stale = result !== undefined && (result.asked || result.failed || result.key !== key);
     for (const id of ids) at(id).classList.toggle("stale", stale);
     at(`lab-${name}-stale`).hidden = !stale;
-    at(`lab-${name}-stale`).textContent = !stale ? "" : result.failed ? "Of a run before: the last one failed." : "Not of what stands above: that has changed since.";
+    at(`lab-${name}-stale`).textContent = stale ? wordsOfStale(result) : "";
   }
 }

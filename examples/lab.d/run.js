@@ -3,18 +3,27 @@ import { ask, asked } from "./ask.js";
 import { bringLine, mark, schedule, source, tellEditor } from "./editor.js";
 import { drawMachine, imagesOf, listingsOf } from "./registers.js";
 import { checkNoMore } from "./programs.js";
-import { dropResult, hasFailed, hasResult } from "./results.js";
+import { dropResult, hasFailed, hasResult, isAsked } from "./results.js";
 import { lab, setup, tellResult } from "./state.js";
-import { tellBad, tellEmpty, tellMachine } from "./told.js";
+import { tellBad, tellFields, tellMachine } from "./told.js";
 
 const LINE = 22;
 // a run that took so many milliseconds is not made again, for what is free and held along it, without being asked
 const SOON = 4000;
+// so many processes that a signal ended are told of
+const MOST_SIGNALS = 3;
 
 // How many steps are asked for at a time: as many as a film of so many frames may have.
 function stepsOf(frames) {
   const [, most] = lab.beginning.steps.find(([size]) => Number(frames) <= size);
   return most;
+}
+
+// Which processes a signal ended, in words; of many the first ones.
+function signalWords(signals) {
+  const told = signals.slice(0, MOST_SIGNALS).map(([pid, status]) => ` ${endedWords(pid, status)}`);
+  const more = signals.length > MOST_SIGNALS ? ` So were ${many(signals.length - MOST_SIGNALS, "other")}.` : "";
+  return told.join("") + more;
 }
 
 // How a run ended, in words.
@@ -29,7 +38,7 @@ function endingWords(answer, limit) {
 function toldOf(answer, lines, limit) {
   if (answer.cut || answer.status !== 0) return tellBad(answer);
   const short = answer.short ? " The transcript is long: its beginning is shown." : "";
-  return `${many(lines.length, "line")}. ${endingWords(answer, limit)}${short}`;
+  return `${many(lines.length, "line")}. ${endingWords(answer, limit)}${signalWords(answer.signals)}${short}`;
 }
 
 export async function run() {
@@ -37,9 +46,10 @@ export async function run() {
   tellMachine("", "");
   tellEditor(schedule, 0, "");
   checkNoMore();
-  if (tellEmpty()) return failed(at("lab-machine-said").textContent);
+  if (tellFields()) return hasFailed("transcript");
   const given = setup();
   const begun = performance.now();
+  isAsked("transcript");
   const answer = await asked("run", given, "Running ..");
   if (!answer) return hasFailed("transcript");
   if (answer.transcript === undefined) return failed(tellBad(answer));

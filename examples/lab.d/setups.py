@@ -32,11 +32,25 @@ def text(asked, name, most):
     return value
 
 
+def all_known(names):
+    """The names of this table that a page's names are. Each that is none is named."""
+    others = [name for name in dict.fromkeys(names) if name not in NAMES]
+    if others:
+        shown = ascii(", ".join(others))[1:-1][:400]
+        raise Refused(400, f"no program of this page, and no example, has the name{'s' if others[1:] else ''} {shown}")
+    return [NAMES[name] for name in names]
+
+
 def known(name):
     """The name of this table that a page's name is."""
-    if not isinstance(name, str) or name not in NAMES:
-        raise Refused(400, "no program of this page, and no example, has this name")
-    return NAMES[name]
+    if not isinstance(name, str):
+        raise Refused(400, "a name is no text")
+    return all_known([name])[0]
+
+
+def schedule_of(asked):
+    """The text of a schedule."""
+    return text(asked, "schedule", 1 << 21)
 
 
 def has_compiler():
@@ -70,13 +84,14 @@ class Setup:
         self.numbers = [text(asked, name, 12).strip() for name in ("frames", "swap", "limit")]
         if not all(map(NUMBER.fullmatch, self.numbers)):
             raise Refused(400, "a number has a character that no number has")
-        self.schedule = text(asked, "schedule", 1 << 21)
+        self.schedule = schedule_of(asked)
         programs = asked.get("programs")
         if not isinstance(programs, dict) or len(programs) > MOST_PROGRAMS:
             raise Refused(400, f"programs is no table of at most {MOST_PROGRAMS}")
         self.programs = {known(name): Program(programs, name) for name in programs}
         words = text(asked, "images", 1024).split()
-        self.images = [("=" if word.startswith("=") else "") + known(word.removeprefix("=")) for word in words]
+        names = all_known([word.removeprefix("=") for word in words])
+        self.images = [("=" if word.startswith("=") else "") + name for word, name in zip(words, names)]
 
     def words(self, frames=None):
         """The words of the run, with as many frames as it has, or others."""

@@ -1,5 +1,5 @@
 // What is wrong: it is told where it stands, and beside the run.
-import { lab, current, FIELDS } from "./state.js";
+import { lab, current, FIELDS, tellResult } from "./state.js";
 import { schedule, source, tellEditor } from "./editor.js";
 import { nearest } from "./nearest.js";
 import { chooseProgram } from "./programs.js";
@@ -15,18 +15,30 @@ export function tellMachine(field, words) {
   }
 }
 
-// Whether a field is empty, which is told.
-export function tellEmpty() {
+// The names of images that are neither programs of this page nor examples.
+function notFound() {
+  const { names, own } = lab.beginning;
+  const has = (name) => lab.programs.some((program) => program.name === name) || (names.includes(name) && !own.includes(name));
+  const words = at("lab-images").value.split(/\s+/).filter((word) => word !== "");
+  return [...new Set(words.map((word) => word.replace(/^=/, "")))].filter((name) => !has(name));
+}
+
+// Whether a field is empty, or names what isn't there, which is told.
+export function tellFields() {
   const field = FIELDS.find((name) => at(`lab-${name}`).value.trim() === "");
+  const names = notFound();
   if (field) tellMachine(field, `${field.toUpperCase()} is empty: ${RANGES[field]}`);
-  return field !== undefined;
+  else if (names.length > 0) tellMachine("images", `no program of this page, and no example, has the ${names.length === 1 ? "name" : "names"} ${names.join(", ")}`);
+  else return false;
+  tellResult(at("lab-machine-said").textContent, true);
+  return true;
 }
 
 const CUT = { time: () => `Ended after ${lab.beginning.seconds} seconds.`, output: () => "Ended: it wrote too much.", stopped: () => "Stopped." };
 
-// The lines that the program wrote on standard error, without its name.
+// The lines that the program wrote on standard error, without its name, and without where the launcher says that more is told.
 function saidOf(answer) {
-  const lines = answer.said.split("\n").filter((line) => line.startsWith("vmrun: "));
+  const lines = answer.said.split("\n").filter((line) => line.startsWith("vmrun: ") && !line.startsWith("vmrun: `vmrun --help` "));
   return lines.map((line) => line.slice("vmrun: ".length));
 }
 
@@ -43,7 +55,8 @@ function reasonOf(answer, form) {
 function reasonOfC(answer) {
   const lines = answer.said.split("\n").filter((line) => line !== "");
   const form = new RegExp(`^(?:cc: )?${answer.program}\\.c(?:, line |:)(\\d+): (?:error: )?(.*)$`);
-  const found = lines.map((line) => line.match(form)).find(Boolean);
+  // what `cc` says of a complaint of the compiler's stands below that, and says more
+  const found = [...lines.filter((line) => line.startsWith("cc: ")), ...lines].map((line) => line.match(form)).find(Boolean);
   return found ? [found[1], found[2]] : ["", (lines[0] || "the compiler ended").replace(/^(cc|vmrun): /, "")];
 }
 
@@ -61,10 +74,7 @@ export function tellBad(answer) {
   if (answer.cut) return CUT[answer.cut]();
   if (answer.status === 125) return saidOf(answer).join("; ");
   if (answer.program) return tellSource(answer.program, ...(answer.c ? reasonOfC(answer) : reasonOf(answer, /^line (\d+): (.*)$/)));
-  if (answer.status === 4) {
-    const [line, words] = reasonOf(answer, /^schedule line (\d+): (.*)$/);
-    tellEditor(schedule, Number(line), atLine(line, words));
-  }
+  if (answer.status === 4) tellSchedule(answer);
   if (answer.status === 1) {
     const [word, words] = reasonOf(answer, /^(FRAMES|SWAP|LIMIT) (is .*)$/);
     if (word) tellMachine(word.toLowerCase(), `${word} ${words}`);
@@ -72,6 +82,12 @@ export function tellBad(answer) {
   }
   if (answer.status === 11) tellMachine("swap", saidOf(answer).pop() || "");
   return `Status ${answer.status}: ${saidOf(answer).pop() || answer.line.replace(/^vmrun: /, "")}`;
+}
+
+// Tells what is bad in the schedule, at its line.
+export function tellSchedule(answer) {
+  const [line, words] = reasonOf(answer, /^schedule line (\d+): (.*)$/);
+  tellEditor(schedule, Number(line), atLine(line, words));
 }
 
 // Shows a program that is bad, with its line marked; one that isn't on the page is only told.

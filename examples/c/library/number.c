@@ -15,6 +15,24 @@ long labs(long number)
 	return number < 0 ? -number : number;
 }
 
+div_t div(int number, int by)
+{
+	div_t both;
+
+	both.quot = number / by;
+	both.rem = number % by;
+	return both;
+}
+
+ldiv_t ldiv(long number, long by)
+{
+	ldiv_t both;
+
+	both.quot = number / by;
+	both.rem = number % by;
+	return both;
+}
+
 /* the value of a digit, 36 of what is none */
 static int digit(int character)
 {

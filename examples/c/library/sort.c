@@ -55,6 +55,26 @@ static void sort(char *low, char *high, int width, int (*compare)(const void *, 
 	}
 }
 
+/* the element that is like the key, of elements that are sorted */
+void *bsearch(const void *key, const void *base, size_t count, size_t width, int (*compare)(const void *, const void *))
+{
+	const char *low = base, *middle;
+	int order;
+
+	while (count > 0) {
+		middle = low + count / 2 * width;
+		order = compare(key, middle);
+		if (order == 0)
+			return (void *)middle;
+		if (order > 0) {
+			low = middle + width;
+			count--;
+		}
+		count /= 2;
+	}
+	return 0;
+}
+
 void qsort(void *base, size_t count, size_t width, int (*compare)(const void *, const void *))
 {
 	if (count > 1)

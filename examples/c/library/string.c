@@ -1,5 +1,6 @@
 /* Strings and memory. */
 
+#include <stdlib.h>
 #include <string.h>
 
 size_t strlen(const char *text)
@@ -34,6 +35,16 @@ char *strncpy(char *to, const char *from, size_t most)
 char *strcat(char *to, const char *from)
 {
 	strcpy(to + strlen(to), from);
+	return to;
+}
+
+char *strncat(char *to, const char *from, size_t most)
+{
+	char *at = to + strlen(to);
+
+	for (; most > 0 && *from; most--)
+		*at++ = *from++;
+	*at = 0;
 	return to;
 }
 
@@ -79,6 +90,79 @@ char *strstr(const char *text, const char *wanted)
 		if (*text == 0)
 			return 0;
 	return (char *)text;
+}
+
+/* how many bytes at the beginning are among these, or aren't */
+static size_t span(const char *text, const char *set, int among)
+{
+	const char *at = text;
+
+	while (*at && (strchr(set, *at) != 0) == among)
+		at++;
+	return at - text;
+}
+
+size_t strspn(const char *text, const char *accepted)
+{
+	return span(text, accepted, 1);
+}
+
+size_t strcspn(const char *text, const char *refused)
+{
+	return span(text, refused, 0);
+}
+
+char *strpbrk(const char *text, const char *wanted)
+{
+	text += strcspn(text, wanted);
+	return *text ? (char *)text : 0;
+}
+
+size_t strnlen(const char *text, size_t most)
+{
+	size_t length = 0;
+
+	while (length < most && text[length])
+		length++;
+	return length;
+}
+
+/* the next word of a text, whose end becomes a 0; what comes after it waits in `rest` */
+char *strtok_r(char *text, const char *between, char **rest)
+{
+	if (text == 0)
+		text = *rest;
+	text += strspn(text, between);
+	*rest = text + strcspn(text, between);
+	if (*text == 0)
+		return 0;
+	if (**rest)
+		*(*rest)++ = 0;
+	return text;
+}
+
+char *strtok(char *text, const char *between)
+{
+	static char *rest;
+
+	return strtok_r(text, between, &rest);
+}
+
+char *strndup(const char *text, size_t most)
+{
+	size_t length = strnlen(text, most);
+	char *copy = malloc(length + 1);
+
+	if (copy == 0)
+		return 0;
+	memcpy(copy, text, length);
+	copy[length] = 0;
+	return copy;
+}
+
+char *strdup(const char *text)
+{
+	return strndup(text, strlen(text));
 }
 
 void *memchr(const void *bytes, int wanted, size_t count)

@@ -16,6 +16,7 @@ int putc(int character, FILE *file);
 int fputc(int character, FILE *file);
 int puts(const char *text);
 int fputs(const char *text, FILE *file);
+void perror(const char *text);
 
 /* format.c says which conversions there are. Those into a place write at most `size` bytes with the 0 at their end; all
    answer how many bytes there would be with room enough, that 0 not counted */
