@@ -1,4 +1,5 @@
 """Runs of the program: one at a time for each page, each in a folder of its own, within bounds of time, memory and output."""
+import functools
 import os
 import secrets
 import selectors
@@ -12,7 +13,6 @@ import time
 HERE = os.path.dirname(os.path.realpath(__file__))
 EXAMPLES = os.path.dirname(HERE)
 LAUNCHER = f"{EXAMPLES}/../vmrun"
-PROGRAM = f"{EXAMPLES}/../crates/vmrun/out/vmrun"
 FILM = f"{EXAMPLES}/film"
 # what a command may write to standard output and to standard error, in bytes
 MOST_OUTPUT = 32 << 20
@@ -20,6 +20,12 @@ MOST_SAID = 64 << 10
 # what a command may have: no core file, seconds of a processor, files of 64 MiB, 4 GiB of addresses
 BOUNDED = 'ulimit -c 0; ulimit -t "$0"; ulimit -f 131072; ulimit -v 4194304; exec "$@"'
 MOST_PAGES = 64
+
+
+@functools.cache
+def which():
+    """The program that the launcher runs."""
+    return subprocess.run([LAUNCHER, "--which"], stdin=subprocess.DEVNULL, stdout=subprocess.PIPE, text=True, check=True).stdout.strip()
 
 
 class Refused(Exception):
@@ -104,7 +110,7 @@ class Run:
 
     def program(self, *words):
         """The program's answer, at once. `launched` comes first in each run."""
-        return self.command([os.environ.get("VMRUN") or PROGRAM, *words])
+        return self.command([os.environ.get("VMRUN") or which(), *words])
 
     def film(self, *words):
         """A film's text."""

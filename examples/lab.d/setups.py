@@ -4,6 +4,7 @@ import binascii
 import os
 import re
 import shutil
+import types
 
 import lessons
 from runs import Refused
@@ -111,6 +112,17 @@ def bad(answer, **more):
     return {"status": answer.status, "line": last, "said": answer.told()[-2000:], "cut": answer.cut, **more}
 
 
+def neat():
+    """The script that writes a source of ordinary style in the assembler's exact form."""
+    names = types.ModuleType("neat")
+    with open(f"{lessons.EXAMPLES}/neat", encoding="utf-8") as it:
+        exec(compile(it.read(), f"{lessons.EXAMPLES}/neat", "exec"), names.__dict__)
+    return names
+
+
+NEAT = neat()
+
+
 def ended(source):
     """A text whose last line has an end."""
     return source if source == "" or source.endswith("\n") else source + "\n"
@@ -118,7 +130,8 @@ def ended(source):
 
 def assemble(run, name, source):
     """Makes the image of a source: nothing, or what is told of a bad one."""
-    write(run.folder, f"{name}.s", ended(source).encode(errors="replace"))
+    lines = ended(source).split("\n")[:-1]
+    write(run.folder, f"{name}.s", "".join(f"{line}\n" for line in NEAT.exact(lines)).encode(errors="replace"))
     answer = run.launched("as", f"{name}.s")
     if answer.status or answer.cut:
         return bad(answer, program=name)
