@@ -1,1 +1,4 @@
-pub mod Holding
+pub mod Named
+pub mod Places
+pub mod OneProof
+pub mod PlaceLaws

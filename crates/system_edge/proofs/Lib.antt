@@ -1,0 +1,4 @@
+pub mod Fits
+pub mod Seen
+pub mod Placing
+pub mod Learning
