@@ -2,3 +2,4 @@ pub mod Fits
 pub mod Seen
 pub mod Placing
 pub mod Learning
+pub mod Numbers

@@ -1,7 +1,7 @@
 -- What is answered of a name, and read of its file, by what its place has.
 use Rattle.std.specs.Prelude.{◌≡◌, ◌<◌, ◌≤◌, ◌+◌, ◌-◌, ℕ, List, [], length, map, take, drop, position, bytes_eq, get_or, min, Option, Some, None}
 use Rattle.std.proofs.Common.{◌∙◌, sym, subst, ap, refl, arith}
-use Rattle.std.proofs.lemmas.List.{length-take, drop-take, take-take}
+use Rattle.std.proofs.lemmas.List.{length-map, length-take, drop-take, take-take}
 use Rattle.std.proofs.lemmas.Option.{same_Some}
 use Rattle.io_edge.specs.FileHolding.{NamedFile, place_of, bytes_at, AnswersName, AnswersIn, HasRange, HoldsRange, file_range}
 use Rattle.io_edge.specs.declared.Found.{Found}
@@ -10,7 +10,7 @@ use Rattle.system_calls.specs.Bytes.{HoldsBytes}
 use Rattle.system_calls.specs.declared.system.SystemFile.{Ghosts as FileGhosts}
 use Rattle.system_edge.specs.declared.place.Place.{Place}
 use Rattle.system_edge.specs.declared.place.Place.TheVariants.{Unsought, Missing, Plain, Held}
-use Rattle.system_edge.specs.Named.{most_seen, seen_files, seen_told}
+use Rattle.system_edge.specs.Named.{most_seen, seen_at, seen_files, seen_told}
 use Rattle.system_edge.specs.Places.{FitsAt, FitsName, known_at, HoldsPlace}
 use Rattle.system_edge.specs.PlaceLaws.{name_at}
 use Rattle.system_edge.proofs.Seen.{seen_there, seen_nowhere, seen_bytes}
@@ -23,9 +23,9 @@ range_within bytes most offset count within =
     let most_is : offset + (most - offset) ≡ most = omega (arith, within, long) in
     let shorter : count ≤ most - offset = omega (arith, within, long) in
     sym (
-      ap (λ (n : ℕ). take count (drop offset (take n bytes))) (sym most_is)
-      ∙ ap (λ (xs : List ℕ). take count xs) (drop-take offset (most - offset) bytes)
-      ∙ take-take count (most - offset) (drop offset bytes) shorter
+    ap (λ (n : ℕ). take count (drop offset (take n bytes))) (sym most_is)
+    ∙ ap (λ (xs : List ℕ). take count xs) (drop-take offset (most - offset) bytes)
+    ∙ take-take count (most - offset) (drop offset bytes) shorter
     )
 
 module _ {F : Type 0} (g : FileGhosts F) (names : List (List ℕ)) where
@@ -46,7 +46,7 @@ module _ {F : Type 0} (g : FileGhosts F) (names : List (List ℕ)) where
       subst (λ (told : Found). AnswersIn (seen_files folder names) name told) (same_Some (found.Is number (min facts.len most_seen)) answer known) (
         seen_there folder names name number at stands there,
         (let bytes = ap (λ (xs : List ℕ). length xs) (bytes_under folder name number at stands there) in
-         let long = fits.1 in omega (arith, long, bytes, length-take most_seen (bytes_at folder at))),
+            let long = fits.1 in omega (arith, long, bytes, length-take most_seen (bytes_at folder at))),
       )
   file_answers folder name number at (Held held) answer stands there fits known =
       subst (λ (told : Found). AnswersIn (seen_files folder names) name told) (same_Some (found.Is number (length held.items)) answer known) (
@@ -96,11 +96,14 @@ module _ {F : Type 0} (g : FileGhosts F) (names : List (List ℕ)) where
   none_holds folder (Plain file facts) offset got fits holds = fits
   none_holds folder (Held held) offset got fits holds = fits
 
-  pub place_holds : (folder : Option (List NamedFile)) (number offset : ℕ) (place : Place F) (got : List ℕ) → number < length names
+  pub place_holds : (folder : Option (List NamedFile)) (number offset : ℕ) (place : Place F) (got : List ℕ)
       → FitsName g folder (get_or names number []) place → HasRange (seen_told folder names) number offset (length got) → HoldsPlace g place offset got
       → HoldsRange (seen_told folder names) number offset got
-  place_holds None number offset place got within fits range holds = tt
-  place_holds (Some folder) number offset place got within fits range holds = go (place_of folder (get_or names number [])) refl where
+  place_holds None number offset place got fits range holds = tt
+  place_holds (Some folder) number offset place got fits range holds = go (place_of folder (get_or names number [])) refl where
+    within : number < length names
+    within = (let long = length-map names (λ (name : List ℕ). seen_at folder names name (place_of folder name)) in omega (arith, range.0, long))
+
     go : (o : Option ℕ) → place_of folder (get_or names number []) ≡ o → got ≡ file_range (bytes_at (seen_files folder names) number) offset (length got)
     go None is = absurd (none_holds folder place offset got (subst (λ (at : Option ℕ). FitsAt g folder at place) is fits) holds)
     go (Some at) is = file_holds folder number at offset place got within is (subst (λ (at : Option ℕ). FitsAt g folder at place) is fits) range.1 holds

@@ -70,7 +70,7 @@ module _ (folder : List NamedFile) (names : List (List ℕ)) where
   seen_there name number at stands there =
       position-map (λ (file : NamedFile). bytes_eq file.name name) view names
       ∙ agrees (λ other. bytes_eq (view other).name name) (λ other. bytes_eq other name) [] names
-        (λ i within. same_test name (get_or names i []) number at stands there (place_of folder (get_or names i [])) refl)
+      (λ i within. same_test name (get_or names i []) number at stands there (place_of folder (get_or names i [])) refl)
       ∙ stands
 
   -- another name than one that the folder lacks
@@ -86,7 +86,7 @@ module _ (folder : List NamedFile) (names : List (List ℕ)) where
   seen_nowhere name number stands lacks =
       position-map (λ (file : NamedFile). bytes_eq file.name name) view names
       ∙ fails (λ other. bytes_eq (view other).name name) [] names
-        (λ i within. other_test name (get_or names i []) number stands lacks (place_of folder (get_or names i [])) refl)
+      (λ i within. other_test name (get_or names i []) number stands lacks (place_of folder (get_or names i [])) refl)
 
   -- the bytes that are seen of a file of the folder, under each number of its name
   pub seen_bytes : (number at : ℕ) → number < length names → place_of folder (get_or names number []) ≡ Some at

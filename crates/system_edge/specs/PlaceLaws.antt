@@ -10,7 +10,7 @@ use Rattle.io_edge.specs.declared.Found.TheVariants as found
 use Rattle.system_edge.specs.declared.place.Place.{Place}
 use Rattle.system_edge.specs.declared.place.Place.TheVariants.{Unsought, Missing, Plain, Held}
 use Rattle.io_edge.specs.FileHolding.{NamedFile}
-use Rattle.system_edge.specs.Named.{seen_told}
+use Rattle.system_edge.specs.Named.{names_of, seen_told}
 use Rattle.system_edge.specs.Places.{KeepsPlaces, known_at, known_in, known_under}
 
 pub places_itself : {F : Type 0} (places : List (Place F)) → KeepsPlaces places places
@@ -50,16 +50,17 @@ places_apart names places one two id len long first second =
     sym (name_at names one id (place_is places (position (λ other. bytes_eq other one) names) id len first)).1
     ∙ (name_at names two id (place_is places (position (λ other. bytes_eq other two) names) id long second)).1
 
--- one system and one list of names see the same files
-pub led_same : {S : Type 0} (folder : S → Option (List NamedFile)) (a b : Bor S) (names_a names_b : Bor (List (Bor (List ℕ)))) → b ≡ a → names_b ≡ names_a
-    → seen_told (folder b.now) (map (λ name. name.now) names_b.now) ≡ seen_told (folder a.now) (map (λ name. name.now) names_a.now)
-led_same folder a b names_a names_b system names =
-    ap (λ (s : Bor _). seen_told (folder s.now) (map (λ name. name.now) names_b.now)) system
-    ∙ ap (λ (n : Bor (List (Bor (List ℕ)))). seen_told (folder a.now) (map (λ name. name.now) n.now)) names
+-- one system and the same words see the same files
+pub led_same : {S : Type 0} (folder : S → Option (List NamedFile)) (a b : Bor S) (words_a words_b : Bor (List (Bor (List ℕ)))) → b ≡ a → words_b ≡ words_a
+    → seen_told (folder b.now) (names_of (map (λ word. word.now) words_b.now)) ≡ seen_told (folder a.now) (names_of (map (λ word. word.now) words_a.now))
+led_same folder a b words_a words_b system words =
+    ap (λ (s : Bor _). seen_told (folder s.now) (names_of (map (λ word. word.now) words_b.now))) system
+    ∙ ap (λ (w : Bor (List (Bor (List ℕ)))). seen_told (folder a.now) (names_of (map (λ word. word.now) w.now))) words
 
 -- and what is known of names stays
-pub led_stays : {F : Type 0} (names_a names_b : Bor (List (Bor (List ℕ)))) (old new : List (Place F)) → names_b ≡ names_a → KeepsPlaces old new
-    → StaysKnown (known_in (map (λ name. name.now) names_a.now) old) (known_in (map (λ name. name.now) names_b.now) new)
-led_stays names_a names_b old new same keeps =
-    subst (λ (n : Bor (List (Bor (List ℕ)))). StaysKnown (known_in (map (λ name. name.now) names_a.now) old) (known_in (map (λ name. name.now) n.now) new)) (sym same)
-    (places_stay (map (λ name. name.now) names_a.now) old new keeps)
+pub led_stays : {F : Type 0} (words_a words_b : Bor (List (Bor (List ℕ)))) (old new : List (Place F)) → words_b ≡ words_a → KeepsPlaces old new
+    → StaysKnown (known_in (names_of (map (λ word. word.now) words_a.now)) old) (known_in (names_of (map (λ word. word.now) words_b.now)) new)
+led_stays words_a words_b old new same keeps =
+    subst (λ (w : Bor (List (Bor (List ℕ)))). StaysKnown (known_in (names_of (map (λ word. word.now) words_a.now)) old)
+    (known_in (names_of (map (λ word. word.now) w.now)) new)) (sym same)
+    (places_stay (names_of (map (λ word. word.now) words_a.now)) old new keeps)

@@ -36,6 +36,15 @@ abbrev pub KeepsPlaces : {F : Type 0} → List (Place F) → List (Place F) → 
 KeepsPlaces old new = (number : ℕ) (found : Found) → known_at number (get_or old number Unsought) ≡ Some found
     → known_at number (get_or new number Unsought) ≡ Some found
 
+-- nothing is changed at any place
+abbrev pub SamePlaces : {F : Type 0} → List (Place F) → List (Place F) → Type 0
+SamePlaces old new = (number : ℕ) → get_or new number Unsought ≡ get_or old number Unsought
+
+-- this one place is changed
+abbrev pub IsPut : {F : Type 0} → List (Place F) → ℕ → Place F → List (Place F) → Type 0
+IsPut old number place new =
+    (get_or new number Unsought ≡ place) × ((other : ℕ) → (other ≡ number → ⊥) → get_or new other Unsought ≡ get_or old other Unsought)
+
 -- a place has what a file of a told folder is: its bytes, up to the most that are seen
 abbrev pub HasFile : {F : Type 0} → FileGhosts F → List ℕ → Place F → Type 0
 HasFile g bytes Unsought = ⊥

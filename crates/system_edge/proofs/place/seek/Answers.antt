@@ -9,5 +9,5 @@ pub returns-in-Some : goal.returns-in-Some
 returns-in-Some g c =
     IfOk-weaker c.take.result _ _
     (λ place. taken_fits g.S.File.SystemFile (g.S.System.folder c.args.system.now) c.args.name.now (g.S.File.SystemFile.bytes c.in-Some.file) place
-        (subst (λ found. Opens (g.S.System.folder c.args.system.now) c.args.name.now (option_map g.S.File.SystemFile.bytes found)) c.in-Some.is c.in_ok-file.ensures))
+    (subst (λ found. Opens (g.S.System.folder c.args.system.now) c.args.name.now (option_map g.S.File.SystemFile.bytes found)) c.in-Some.is c.in_ok-file.ensures))
     c.take.ensures
