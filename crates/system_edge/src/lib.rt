@@ -3,8 +3,12 @@
 #![tactic(auto)]
 
 mod dir_files;
+mod last_line;
+mod out_sink;
 mod place;
 mod refusal;
 
+pub use dir_files::DirFiles;
 pub use io_edge::{Moved, Sink, SwapDev};
+pub use out_sink::OutSink;
 pub use refusal::Refusal;
