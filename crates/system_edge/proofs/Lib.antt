@@ -3,3 +3,4 @@ pub mod Seen
 pub mod Placing
 pub mod Learning
 pub mod Numbers
+pub mod SwapRanges

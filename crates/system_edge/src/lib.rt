@@ -3,6 +3,8 @@
 #![tactic(auto)]
 
 mod dir_files;
+mod file_swap;
+mod own_file;
 mod place;
 mod refusal;
 
