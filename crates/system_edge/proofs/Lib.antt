@@ -4,3 +4,4 @@ pub mod Placing
 pub mod Learning
 pub mod Numbers
 pub mod Outputs
+pub mod SwapRanges

@@ -12,18 +12,18 @@ use system_calls::SystemOutput;
 
 /// An output of the system. Where it tells what it took, that is what was written.
 #[derive(Drop)]
-pub struct OutSink<O: Drop> {
-    output: O,
+pub struct OutSink<'a, O> {
+    output: &'a mut O,
     faults: u64,
     fault: Option<io::Error>,
     last: LastLine,
 }
 
-impl<O: SystemOutput + Drop> OutSink<O> {
+impl<'a, O: SystemOutput> OutSink<'a, O> {
     /// The output, before the first piece.
-    pub fn new(output: O) -> OutSink<O>
-        ensures written { ⟦<OutSink<O> as Sink>⟧.written result ≡ O.taken output }
-        ensures faults { ⟦<OutSink<O> as Sink>⟧.faults result ≡ 0 }
+    pub fn new(output: &'a mut O) -> OutSink<'a, O>
+        ensures written { ⟦<OutSink<'a, O> as Sink>⟧.written result ≡ O.taken output.old }
+        ensures faults { ⟦<OutSink<'a, O> as Sink>⟧.faults result ≡ 0 }
     {
         OutSink {
             output,
@@ -73,16 +73,16 @@ fn write_whole<O: SystemOutput>(output: &mut O, bytes: &[u8]) -> io::Result<()>
     Err(io::Error::from(ErrorKind::Interrupted))
 }
 
-impl<O: SystemOutput + Drop> Sink for OutSink<O> {
-    ghost written = { λ s. O.taken s.output };
+impl<O: SystemOutput> Sink for OutSink<'_, O> {
+    ghost written = { λ s. O.taken s.output.now };
 
     ghost faults = { λ s. s.faults };
 
-    ghost leads = { λ a b. Extends (O.taken a.output) (O.taken b.output) × (a.faults ≤ b.faults) };
+    ghost leads = { λ a b. Extends (O.taken a.output.now) (O.taken b.output.now) × (a.faults ≤ b.faults) };
 
     fn put(&mut self, bytes: &[u8]) -> Moved {
         self.last.note(bytes);
-        match write_whole(&mut self.output, bytes) {
+        match write_whole(self.output, bytes) {
             Ok(()) => Moved::Done,
             Err(error) => {
                 self.fault = Some(error);
@@ -92,10 +92,10 @@ impl<O: SystemOutput + Drop> Sink for OutSink<O> {
         }
     }
 
-    ghost leads_nowhere = { λ s. (extends_itself (O.taken s.output), le_refl s.faults) };
+    ghost leads_nowhere = { λ s. (extends_itself (O.taken s.output.now), le_refl s.faults) };
 
     ghost leads_through = { λ a b c first then. (
-      extends_through (O.taken a.output) (O.taken b.output) (O.taken c.output) first.0 then.0,
+      extends_through (O.taken a.output.now) (O.taken b.output.now) (O.taken c.output.now) first.0 then.0,
       le_trans first.1 then.1,
     ) };
 
