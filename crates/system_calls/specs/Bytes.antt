@@ -31,9 +31,9 @@ abbrev pub WritesBytes : Option (List ℕ) → ℕ → List ℕ → Option (List
 WritesBytes None offset piece new = new ≡ None
 WritesBytes (Some bytes) offset piece new = new ≡ Some (written_over bytes offset piece)
 
--- the bytes after the write of so many from this offset on failed: no more than these were changed; they stay told, or untold
-abbrev pub SpoilsBytes : Option (List ℕ) → ℕ → ℕ → Option (List ℕ) → Type 0
-SpoilsBytes old offset count new = (new ≡ old) ⊎ ((piece : List ℕ) × (length piece ≤ count) × WritesBytes old offset piece new)
+-- the bytes after the write of a piece failed: a first part of it was written, or nothing at all; they stay told, or untold
+abbrev pub SpoilsBytes : Option (List ℕ) → ℕ → List ℕ → Option (List ℕ) → Type 0
+SpoilsBytes old offset piece new = (new ≡ old) ⊎ ((count : ℕ) × (count ≤ length piece) × WritesBytes old offset (take count piece) new)
 
 -- the bytes after all were taken away; they stay told, or untold
 abbrev pub Empties : Option (List ℕ) → Option (List ℕ) → Type 0

@@ -1,1 +1,7 @@
-pub mod Holding
+pub mod Named
+pub mod Places
+pub mod OneProof
+pub mod PlaceLaws
+pub mod SwapFiles
+pub mod SwapWhole
+pub mod OwnFiles

@@ -12,6 +12,7 @@ use std::io::{ErrorKind, IsTerminal, Write};
 use std::os::unix::io::AsRawFd;
 use std::process::ExitCode;
 use std::{env, fs, io};
+use system_calls::Host;
 use system_edge::{DirFiles, FileSwap, Moved, OutSink, Refusal, Sink, SwapDev};
 use telling::{Refuser, exit_code, first_of, has_line, refuser_of};
 use vm_run::{explain, vmrun};
@@ -60,10 +61,13 @@ fn read_words(rt: &HostRuntime) -> Result<Vec<String>, u8> {
 }
 
 // A swap device of 65,536 blocks: two are enough for every SWAP.
-fn swap_file<'r>(rt: &'r HostRuntime, name: &'r str) -> FileSwap<'r, HostRuntime>
-    ensures { ⟦<FileSwap<'r, HostRuntime> as SwapDev>⟧.blocks result ≡ 65_536 }
+fn swap_file<'r>(
+    host: &'r Host<'r, HostRuntime>,
+    name: &'r str,
+) -> FileSwap<'r, Host<'r, HostRuntime>>
+    ensures { ⟦<FileSwap<'r, Host<'r, HostRuntime>> as SwapDev>⟧.blocks result ≡ 65_536 }
 {
-    FileSwap::new(rt, name, 65_536)
+    FileSwap::new(host, name, 65_536)
 }
 
 // Writes what the system refused, and why, to standard error.
@@ -84,14 +88,19 @@ fn tell_output(rt: &HostRuntime, error: Option<io::Error>) {
 }
 
 // Writes the line of a fault, which ends the output, to standard error too, where a terminal doesn't show it.
-fn tell_line(rt: &HostRuntime, sink: &OutSink<'_, HostRuntime>, status: u8) {
+fn tell_line(rt: &HostRuntime, sink: &OutSink<'_, Host<'_, HostRuntime>>, status: u8) {
     if has_line(status) && !rt.stdout().is_terminal() {
         let _ = rt.stderr().write_all(sink.last_line());
     }
 }
 
 // Ends before a run begins: writes this line, and answers its status, or 8.
-fn end_early(rt: &HostRuntime, sink: &mut OutSink<'_, HostRuntime>, line: &[u8], status: u8) -> u8 {
+fn end_early(
+    rt: &HostRuntime,
+    sink: &mut OutSink<'_, Host<'_, HostRuntime>>,
+    line: &[u8],
+    status: u8,
+) -> u8 {
     match sink.put(line) {
         Moved::Done => {
             tell_line(rt, sink, status);
@@ -105,11 +114,16 @@ fn end_early(rt: &HostRuntime, sink: &mut OutSink<'_, HostRuntime>, line: &[u8],
 }
 
 // Runs these words, tells what is to be told of how that ended, and answers the status.
-fn run_words(rt: &HostRuntime, words: &[&str], sink: &mut OutSink<'_, HostRuntime>) -> u8 {
+fn run_words(
+    rt: &HostRuntime,
+    words: &[&str],
+    sink: &mut OutSink<'_, Host<'_, HostRuntime>>,
+) -> u8 {
     let alloc = rt.alloc();
-    let mut zero = swap_file(rt, "vmrun.swap0");
-    let mut one = swap_file(rt, "vmrun.swap1");
-    let mut files = DirFiles::new(rt);
+    let host = Host(rt);
+    let mut zero = swap_file(&host, "vmrun.swap0");
+    let mut one = swap_file(&host, "vmrun.swap1");
+    let mut files = DirFiles::new(alloc, &host, words);
     let status = vmrun(alloc, words, &mut files, &mut zero, &mut one, sink);
     tell_line(rt, sink, status);
     if let Ok(Some(text)) = explain(alloc, words, &mut files, status) {
@@ -125,7 +139,7 @@ fn run_words(rt: &HostRuntime, words: &[&str], sink: &mut OutSink<'_, HostRuntim
 }
 
 // Takes the words of the command line, and runs them.
-fn answer(rt: &HostRuntime, sink: &mut OutSink<'_, HostRuntime>) -> u8 {
+fn answer(rt: &HostRuntime, sink: &mut OutSink<'_, Host<'_, HostRuntime>>) -> u8 {
     let words = match read_words(rt) {
         Ok(words) => words,
         Err(BAD_WORDS) => return end_early(rt, sink, b"vmrun: bad words\n", BAD_WORDS),
@@ -141,7 +155,8 @@ fn answer(rt: &HostRuntime, sink: &mut OutSink<'_, HostRuntime>) -> u8 {
 }
 
 fn main(rt: HostRuntime) -> ExitCode {
-    let mut sink = OutSink::new(&rt);
+    let mut output = Host(&rt);
+    let mut sink = OutSink::new(&mut output);
     match occupy_descriptors(&rt) {
         Ok(_occupied) => exit_code(answer(&rt, &mut sink)),
         Err(error) => {
