@@ -15,7 +15,7 @@ const named = (word) => word.replaceAll("-", " ");
 
 // How a process ended, by its status.
 function endedBy(status) {
-  return status % 256 === 0 ? `code ${status / 256}` : `signal ${status}: ${SIGNALS[status] || "unknown"}`;
+  return status % 256 === 0 ? `code ${status / 256}` : `signal ${status}: ${LINES.signals[status] || "unknown"}`;
 }
 
 // The counts of the processes: a row for each count, a column for each process, and the sum.

@@ -103,39 +103,21 @@ function began(before, now) {
     .join("");
 }
 
-const CALLS = { 1: "exit", 2: "fork", 4: "write", 17: "break", 20: "getpid", 59: "execve", 66: "vfork", 84: "wait" };
-const ERRORS = { 2: "ENOENT", 7: "E2BIG", 9: "EBADF", 10: "ECHILD", 11: "EAGAIN", 12: "ENOMEM", 14: "EFAULT" };
-
 function callWords(words, before, now) {
   const [pid, call, carry, r0, r1] = words.slice(1).map(Number);
-  const name = `Process ${pid}'s call ${CALLS[call] || call}`;
-  if (carry === 1) return `${name} was refused with error ${r0}, ${ERRORS[r0] || "unknown"}.`;
-  let text;
-  if (call === 2) text = `${name} was answered: its child is process ${r0}, with a copy of the space.`;
-  else if (call === 66) text = `${name} was answered: its child is process ${r0}, which has the space itself for a time.`;
-  else if (call === 59) {
+  if (carry === 1) return plain("refused", words);
+  let text = plain(`call ${call}`, words) || plain("call", words);
+  if (call === 59) {
     const process = now.processes.find((it) => it.pid === pid);
-    text = `${name} was answered: it runs another image, in space ${process ? process.sid : "of its own"}.`;
-  } else if (call === 4) text = `${name} was answered: ${many(r0, "byte")} ${r0 === 1 ? "was" : "were"} written.`;
-  else if (call === 84) text = `${name} was answered: child ${r0} had ended, with status ${r1}.`;
-  else text = `${name} was answered with ${r0}.`;
+    if (process) text = `${text.slice(0, -1)}, in space ${process.sid}.`;
+  }
   if (now.due.length > 0) text += ` ${upper(many(now.due.length, "page"))} ${now.due.length === 1 ? "is" : "are"} due to be filled.`;
   if (before) text += freed(before, now) + swapMoved(before, now);
   return text;
 }
 
-// What a signal that ends a process is for.
-const SIGNALS = {
-  4: "an illegal instruction: a reserved opcode or operand",
-  8: "a division by 0",
-  10: "a write to the text",
-  11: "an address outside its space",
-  12: "a system call that there is not",
-};
-
 function endedWords(pid, status) {
-  const how = status % 256 === 0 ? `exited with code ${status / 256}` : `was ended by signal ${status}, ${SIGNALS[status] || "which this page doesn't know"}`;
-  return `Process ${pid} ${how}.`;
+  return plain(status % 256 === 0 ? "exited" : "signalled", ["x", `${pid}`, `${status}`]);
 }
 
 // Why a run is over: each process has ended, or as many instructions ran as may run; a trace ends where its kernel stopped telling.
@@ -241,22 +223,22 @@ function tell(before, now) {
       return "The start: each first process has its space and its swap, no page is filled, and all frames are free.";
     case "e": {
       const asked = film.read.schedule[a];
-      return asked === undefined ? `Line ${a} of the schedule begins.` : `Line ${a} of the schedule begins, \`${asked}\`: ${scheduleWords(asked)}.${idleWords(now)}`;
+      return asked === undefined ? plain("e", words) : `Line ${a} of the schedule begins, \`${asked}\`: ${scheduleWords(asked)}.${idleWords(now)}`;
     }
     case "t":
-      return `A turn of process ${a} begins.`;
+      return plain("t", words);
     case "r":
-      return `Process ${a} ran ${many(b, "instruction")}.` + (before ? dirtied(before, now) : "");
+      return plain("r", words) + (before ? dirtied(before, now) : "");
     case "o":
-      return `Process ${a} writes ${many((words[2] || "").length / 2, "byte")}, \`${charactersOf((words[2] || "").slice(0, 400))}\`; the answer to the call comes next.`;
+      return plain("o", words);
     case "g":
-      return `The stack of process ${a} has ${many(b, "page")} now.` + (before ? swapMoved(before, now) : "");
+      return plain("g", words) + (before ? swapMoved(before, now) : "");
     case "c":
       return callWords(words, before, now);
     case "f":
-      return `The swap that process ${a} asks for finds no place.`;
+      return plain("f", words);
     case "s":
-      return `Process ${a} sleeps: it waits, and none of its children has ended.`;
+      return plain("s", words);
     case "x":
       return endedWords(a, b) + (before ? freed(before, now) + swapMoved(before, now) : "");
     case "Z":
@@ -269,7 +251,7 @@ function tell(before, now) {
     }
     case "G": {
       const page = pageOf(words, 1);
-      return `${upper(pageWords(page))} is wanted.` + (before ? began(before, now) + pushedOut(before, now) : "");
+      return plain("G", words) + (before ? began(before, now) + pushedOut(before, now) : "");
     }
     case "R": {
       const page = pageOf(words, 1);
@@ -288,11 +270,11 @@ function tell(before, now) {
       return `${upper(pageWords(page))} is made invalid${frame ? `, and keeps frame ${frame.frame}` : ""}.`;
     }
     case "W": {
-      const text = `${upper(pageWords(pageOf(words, 1)))} is written, invalid and dirty.`;
+      const text = plain("W", words);
       return before ? text + began(before, now) : text;
     }
     case "F": {
-      const text = `${upper(pageWords(pageOf(words, 1)))} is given up, invalid and clean.`;
+      const text = plain("F", words);
       return before ? text + freed(before, now) : text;
     }
     case "P": {
@@ -302,7 +284,7 @@ function tell(before, now) {
       return before ? text + began(before, now) + freed(before, now) : text;
     }
     case "D": {
-      if (!before || before.transfers.length === 0) return "The oldest transfer ended.";
+      if (!before || before.transfers.length === 0) return plain("D", words);
       const transfer = before.transfers[0];
       const pages = transfer.parts.map((part) => part.page);
       if (transfer.errand === "write") return `The oldest transfer ended: ${pagesListed(pages)} ${pages.length === 1 ? "was" : "were"} written.` + freed(before, now);
@@ -311,11 +293,11 @@ function tell(before, now) {
       return others.length === 0 ? text : `${text} ${upper(pagesListed(others))} came along: invalid, in frames on the free list.`;
     }
     case "O":
-      return `The registers of process ${a} went to its u page: it is out.`;
+      return plain("O", words);
     case "I":
-      return `The registers of process ${a} came back from its u page: it is in.`;
+      return plain("I", words);
     case "M":
-      return `Counted: ${many(a, "frame")} free, ${number(b)} in use, ${number(Number(words[3]))} in transfers; ${many(Number(words[4]), "block")} of swap held.`;
+      return plain("M", words);
     default:
       return "";
   }
