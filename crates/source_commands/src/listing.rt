@@ -1,18 +1,18 @@
 //! `dis`: an image is read, and its instructions listed up to the first place without one.
-ghost use Rattle.std.specs.Prelude.{◌≡◌, ◌≤◌, ◌<◌, ◌+◌, ◌^◌, ◌/◌, Bool, length, min};
+ghost use Rattle.std.specs.Prelude.{◌≡◌, ◌≤◌, ◌<◌, ◌+◌, ◌^◌, ◌/◌, Bool, IfOk, length, min};
 ghost use Rattle.io_edge.specs.Calls.{KeepsFiles};
 ghost use Rattle.aout_image.specs.Image.{IsSound, file_length_of, pages_of, offset_of, given_of};
 ghost use Rattle.command_edge.specs.Told.{image_told};
 ghost use Rattle.command_edge.specs.Ending.{ending_of};
 ghost use Rattle.command_edge.specs.Command.{EndCounted, Made};
-ghost use Rattle.source_commands.specs.Listing.{code_at};
+ghost use Rattle.source_commands.specs.Listing.{IsListing, code_at};
 ghost use Rattle.source_commands.specs.Command.{Lists, EndsListing};
 
 use crate::text::listing_of;
 use aout_image::Image;
 use command_edge::{Fault, load_image, write_ending};
 use io_edge::{Files, Sink};
-use std::alloc::Global;
+use std::alloc::{AllocError, Global};
 
 // Where the byte of a segment stands in the file.
 fn place_in(image: &Image, text: bool, at: u32) -> u64
@@ -42,6 +42,16 @@ fn code_of<'a>(image: &Image, bytes: &'a [u8]) -> &'a [u8]
     }
 }
 
+// The listing of an image, whose file has these bytes.
+fn listing_in(alloc: Global, image: &Image, bytes: &[u8]) -> Result<Vec<u8>, AllocError>
+    requires sound { IsSound image.now }
+    requires size { length bytes.now ≡ file_length_of image.now }
+    ensures { IfOk result (λ listing. IsListing (image.now.entry + 2) (code_at image.now bytes.now (image.now.entry + 2)) listing.items) }
+{
+    let code = code_of(image, bytes);
+    listing_of(alloc, code, image.entry + 2)
+}
+
 // The listing of the image of this name.
 fn listing_from<'a, F: Files>(
     alloc: Global,
@@ -67,8 +77,7 @@ fn listing_from<'a, F: Files>(
         Ok(loaded) => loaded,
         Err(unread) => return Err(Fault::of_unread(name, unread)),
     };
-    let code = code_of(&loaded.image, loaded.bytes.as_slice());
-    match listing_of(alloc, code, loaded.image.entry + 2) {
+    match listing_in(alloc, &loaded.image, loaded.bytes.as_slice()) {
         Ok(listing) => Ok(listing),
         Err(_) => Err(Fault::NoMemory),
     }

@@ -36,15 +36,15 @@ returns-in-Err-clause-counted g c =
     } in
     subst (λ (e : Fault). FaultCounted e f) (sym c.of_unread.ensures) (unloaded_counted Loaded c.args.name c.in-Err.unread f c.in-Err.ensures.faults)
 
-pub returns-in-Ok-listing_of-clause-made : goal.returns-in-Ok-listing_of-clause-made
-returns-in-Ok-listing_of-clause-made g c =
+pub returns-in-Ok-listing_in-clause-made : goal.returns-in-Ok-listing_in-clause-made
+returns-in-Ok-listing_in-clause-made g c =
     let image = c.in-Ok.loaded.image in
-    made_by (EndsListing c.args.name.now) (λ (list : List NamedFile). image_told list c.args.name.now) (g.F.Files.holds c.args.files.now) _ (Ok c.in-Ok-listing_of.listing.items)
+    made_by (EndsListing c.args.name.now) (λ (list : List NamedFile). image_told list c.args.name.now) (g.F.Files.holds c.args.files.now) _ (Ok c.in-Ok-listing_in.listing.items)
     (Ok (image, c.in-Ok.loaded.bytes.items))
     c.in-Ok.ensures.answers (
       record { open_same = c.in-Ok.ensures.faults.0; page_same = c.in-Ok.ensures.faults.1 },
-      subst (λ (code : List ℕ). IsListing (image.entry + 2) code c.in-Ok-listing_of.listing.items)
-          (c.code_of-code.ensures ∙ ap (λ (file : List ℕ). code_at image file (image.entry + 2)) c.as_slice.ensures.value) c.in-Ok-listing_of.ensures,
+      subst (λ (file : List ℕ). IsListing (image.entry + 2) (code_at image file (image.entry + 2)) c.in-Ok-listing_in.listing.items)
+          c.as_slice.ensures.value c.in-Ok-listing_in.ensures,
     )
 
 pub returns-clause-made : goal.returns-clause-made
