@@ -1,7 +1,7 @@
 -- What was taken of a file that a told folder has fits its name.
 use Rattle.std.specs.Prelude.{◌≡◌, ℕ, List, take, Vec, Option, Some, None}
 use Rattle.std.proofs.Common.{subst, sym, ap, ◌∙◌, Global}
-use Rattle.io_edge.specs.FileHolding.{NamedFile, place_of, bytes_at}
+use Rattle.io_edge.specs.FileHolding.{NamedFile, bytes_at}
 use Rattle.system_calls.specs.Bytes.{HoldsStart}
 use Rattle.system_calls.specs.Folder.{Opens}
 use Rattle.system_calls.specs.declared.system.SystemFile.{Ghosts as FileGhosts}

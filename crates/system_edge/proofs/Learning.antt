@@ -1,6 +1,6 @@
 -- What is learned of a name is put into its place, and every place still fits its name.
-use Rattle.std.specs.Prelude.{◌≡◌, ◌<◌, ◌⊎◌, ℕ, List, [], ◌∷◌, ◌++◌, length, position, bytes_eq, get_or, Result, OnOk, OnErr, Ok, Err, Option, Some, None}
-use Rattle.std.proofs.Common.{◌∙◌, sym, subst, ap, inl, inr, arith}
+use Rattle.std.specs.Prelude.{◌≡◌, ◌⊎◌, ℕ, List, [], ◌∷◌, ◌++◌, length, position, bytes_eq, get_or, Result, OnOk, OnErr, Ok, Err, Option, Some, None}
+use Rattle.std.proofs.Common.{sym, subst, inl, inr, arith}
 use Rattle.std.proofs.lemmas.Bool.{cases_eq}
 use Rattle.std.proofs.lemmas.Grind.{common_steps}
 use Rattle.io_edge.specs.FileHolding.{NamedFile, IsKnown, CountsFind}

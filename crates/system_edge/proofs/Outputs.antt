@@ -19,7 +19,7 @@ pub took_more : (old mid new : Option (List ℕ)) (bytes : List ℕ) (done count
 took_more old mid new bytes done count first then =
     subst (λ (xs : List ℕ). Appends old xs new) (sym (take-add done count bytes))
     (appends_through old mid new (take done bytes) (take count (drop done bytes)) first
-      (subst (λ (xs : List ℕ). Appends mid (take count xs) new) (take_rest bytes done) then))
+    (subst (λ (xs : List ℕ). Appends mid (take count xs) new) (take_rest bytes done) then))
 
 -- all of them
 pub took_all : (old new : Option (List ℕ)) (bytes : List ℕ) (done : ℕ) → done ≡ length bytes → Appends old (take done bytes) new → Appends old bytes new

@@ -1,5 +1,5 @@
 -- What is answered of a name, and read of its file, by what its place has.
-use Rattle.std.specs.Prelude.{◌≡◌, ◌<◌, ◌≤◌, ◌+◌, ◌-◌, ℕ, List, [], length, map, take, drop, position, bytes_eq, get_or, min, Option, Some, None}
+use Rattle.std.specs.Prelude.{◌≡◌, ◌<◌, ◌≤◌, ◌+◌, ◌-◌, ℕ, List, [], length, take, drop, position, bytes_eq, get_or, min, Option, Some, None}
 use Rattle.std.proofs.Common.{◌∙◌, sym, subst, ap, refl, arith}
 use Rattle.std.proofs.lemmas.List.{length-map, length-take, drop-take, take-take}
 use Rattle.std.proofs.lemmas.Option.{same_Some}

@@ -1,16 +1,14 @@
 -- The files that names name, as they are seen: each stands in the first place of its name, and of a name that the folder lacks there is none.
-use Rattle.std.specs.Prelude.{◌≡◌, ◌<◌, ◌+◌, ℕ, zero, suc, Bool, true, false, cond, not, nat_lt, List, [], ◌∷◌, ◌++◌, length, map, take, position, bytes_eq, get_or, min, Option, Some, None}
+use Rattle.std.specs.Prelude.{◌≡◌, ◌<◌, ◌+◌, ℕ, zero, suc, Bool, true, false, cond, not, nat_lt, List, [], ◌∷◌, length, take, position, bytes_eq, get_or, Option, Some, None}
 use Rattle.std.specs.List.{position_or_len}
 use Rattle.std.proofs.Common.{◌∙◌, sym, subst, ap, refl, arith}
 use Rattle.std.proofs.lemmas.Grind.{common_steps}
-use Rattle.std.proofs.lemmas.List.{get_or-map, length-map, length-take, take-take}
+use Rattle.std.proofs.lemmas.List.{get_or-map}
 use Rattle.std.proofs.lemmas.List.Quantifiers.{position-Some}
 use Rattle.std.proofs.lemmas.Slice.Eq.{bytes_eq-Decides}
-use Rattle.io_edge.specs.FileHolding.{NamedFile, place_of, bytes_at, no_file, AnswersName, AnswersIn, HasRange, HoldsRange, file_range}
-use Rattle.io_edge.specs.declared.Found.{Found}
-use Rattle.io_edge.specs.declared.Found.TheVariants as found
+use Rattle.io_edge.specs.FileHolding.{NamedFile, place_of, bytes_at, no_file}
 use Rattle.io_edge.proofs.NamedFiles.{position-map}
-use Rattle.system_edge.specs.Named.{most_seen, longer_name, seen_at, seen_files, seen_told}
+use Rattle.system_edge.specs.Named.{most_seen, longer_name, seen_at, seen_files}
 use Rattle.system_edge.specs.PlaceLaws.{name_at}
 
 -- a test that agrees with another at each place finds the same

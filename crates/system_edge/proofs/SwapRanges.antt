@@ -1,19 +1,18 @@
 -- What a range of a swap file that is read or written is of the device that it makes.
-use Rattle.std.proofs.Common.{◌≡◌, ◌⊎◌, ◌≤◌, ◌+◌, ◌-◌, ◌*◌, inl, inr, max, ℕ, suc, get_or, Bool, true, false, List, [], ◌∷◌, ◌++◌, length, take, drop, replicate, Option, Some, None, ◌<◌, refl, ap, subst, sym, ◌∙◌, arith, length-append, append_assoc}
+use Rattle.std.proofs.Common.{◌≡◌, ◌≤◌, ◌+◌, ◌-◌, ◌*◌, inl, inr, max, ℕ, suc, get_or, Bool, true, false, List, [], ◌∷◌, ◌++◌, length, take, drop, replicate, Option, Some, None, ◌<◌, refl, ap, subst, sym, ◌∙◌, arith, length-append, append_assoc}
 use Rattle.std.specs.Prelude.{⊤, Result, Ok, Err, OnOk, OnErr, IsOk}
 use Rattle.std.specs.List.{flat_map}
 use Rattle.std.specs.Option.{ForSome}
 use Rattle.std.proofs.lemmas.Option.{same_Some}
 use Rattle.std.proofs.lemmas.Bool.{cases_lt}
 use Rattle.std.proofs.Math.Seq.{drop-append-add, take-append-add}
-use Rattle.std.proofs.lemmas.List.{append-nil, drop-replicate, nil_from_length, length-replicate, length-take, length-take-le, length-drop, drop-drop, drop-append-le, take-append-le, take-append-drop, take_at, take_all, drop_at, replicate-append-replicate, take-take}
+use Rattle.std.proofs.lemmas.List.{append-nil, drop-replicate, nil_from_length, length-replicate, length-take, length-take-le, length-drop, drop-drop, drop-append-le, take-append-le, take-append-drop, take_at, take_all, drop_at, replicate-append-replicate}
 use Rattle.vm_facts.specs.Swap.{blocks_at, put_blocks}
 use Rattle.vm_facts.specs.SwapImages.{SwapImage, unnoted}
 use Rattle.io_edge.specs.FileHolding.{file_range}
 use Rattle.io_edge.specs.SwapImage.{bytes_told, HoldsPage, ReadsPage, WritesPage, SpoilsPage}
 use Rattle.io_edge.specs.SwapRuns.{WritesPages, SpoilsPages, WritesSomePages}
 use Rattle.io_edge.specs.Zeros.{with_zeros, length-with_zeros}
-use Rattle.io_edge.proofs.Pages.{put_blocks-blocks_at, length-blocks_at}
 use Rattle.io_edge.proofs.RunWrites.{untold_spoiled}
 use Rattle.io_edge.proofs.ZeroEnds.{none_kept, blocks_at-kept, blocks_at-zeros}
 use Rattle.system_calls.specs.Bytes.{IsTold, Empties, HoldsBytes, WritesBytes, SpoilsBytes, filled_to, written_over}

@@ -1,6 +1,7 @@
 -- The files of a folder as a run sees them: those that its words name, each under the number of its name, which is its first place in
 -- a list of names.
 use Rattle.std.specs.Prelude.{ℕ, List, [], ◌∷◌, ◌++◌, ◌==◌, cond, map, take, Option, Some, None}
+use Rattle.std.specs.Borrow.{Bor}
 use Rattle.io_edge.specs.FileHolding.{NamedFile, place_of, bytes_at}
 
 -- the name in a word: without the equals sign with which it may begin
@@ -11,6 +12,10 @@ name_in (byte ∷ bytes) = cond (byte == 61) bytes (byte ∷ bytes)
 -- the names of files that words may name: each word, and the name in each
 abbrev pub names_of : List (List ℕ) → List (List ℕ)
 names_of words = words ++ map name_in words
+
+-- the same of words as they are handed in
+abbrev pub names_in : List (Bor (List ℕ)) → List (List ℕ)
+names_in words = names_of (map (λ word. word.now) words)
 
 -- the most bytes that are seen of a file: one more than the longest transcript has
 unfoldable pub most_seen : ℕ

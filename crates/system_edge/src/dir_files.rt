@@ -3,7 +3,7 @@ ghost use Rattle.std.specs.Prelude.{◌≡◌, ◌+◌, Some, ◌≤◌, ◌<◌
 ghost use Rattle.std.proofs.Common.{le_refl, le_trans, ◌∙◌};
 ghost use Rattle.io_edge.specs.FileHolding.{AnswersName, HasRange, HoldsRange, IsKnown};
 ghost use Rattle.io_edge.specs.FileRequests.{no_notes};
-ghost use Rattle.system_edge.specs.Named.{name_in, names_of, seen_told};
+ghost use Rattle.system_edge.specs.Named.{name_in, names_in, seen_told};
 ghost use Rattle.system_edge.specs.Places.{FitNames, IsAnswered, IsPut, KeepsPlaces, SamePlaces, known_at, known_in};
 ghost use Rattle.system_edge.specs.declared.place.Place.TheVariants.{Unsought};
 ghost use Rattle.system_edge.specs.OneProof.{FitNames-prop};
@@ -70,7 +70,7 @@ fn numbered(place: usize) -> Option<u32>
 
 // The number of a name: its first place among the words, or else behind them, among the names in the words.
 fn number_of(words: &[&str], name: &str) -> Option<u32>
-    ensures { IfSome result (λ number. position (λ other. bytes_eq other name.now) (names_of (map (λ word. word.now) words.now)) ≡ Some number) }
+    ensures { IfSome result (λ number. position (λ other. bytes_eq other name.now) (names_in words.now) ≡ Some number) }
 {
     match word_of(words, name) {
         Some(place) => numbered(place),
@@ -142,13 +142,13 @@ pub struct DirFiles<'r, S: System> {
     fault: Option<Fault>,
     open_faults: u64,
     page_faults: u64,
-    ghost fits: { FitNames S.File.SystemFile (S.folder system.now) (names_of (map (λ word. word.now) words.now)) places.items } by { FitNames-prop S.File.SystemFile (S.folder system.now) (names_of (map (λ word. word.now) words.now)) places.items },
+    ghost fits: { FitNames S.File.SystemFile (S.folder system.now) (names_in words.now) places.items } by { FitNames-prop S.File.SystemFile (S.folder system.now) (names_in words.now) places.items },
 }
 
 impl<'r, S: System> DirFiles<'r, S> {
     /// The files that these words may name, before the first call.
     pub fn new(alloc: Global, system: &'r S, words: &'r [&'r str]) -> DirFiles<'r, S>
-        ensures holds { ⟦<DirFiles<'r, S> as Files>⟧.holds result ≡ seen_told (S.folder system.now) (names_of (map (λ word. word.now) words.now)) }
+        ensures holds { ⟦<DirFiles<'r, S> as Files>⟧.holds result ≡ seen_told (S.folder system.now) (names_in words.now) }
         ensures open_faults { ⟦<DirFiles<'r, S> as Files>⟧.open_faults result ≡ 0 }
         ensures page_faults { ⟦<DirFiles<'r, S> as Files>⟧.page_faults result ≡ 0 }
     {
@@ -176,8 +176,8 @@ impl<'r, S: System> DirFiles<'r, S> {
 
     // What is known of the name of this number; where nothing is, the file is sought.
     fn learn(&mut self, number: u32, name: &str) -> io::Result<Found>
-        requires { position (λ other. bytes_eq other name.now) (names_of (map (λ word. word.now) self.old.words.now)) ≡ Some number }
-        ensures answer { IfOk result (λ found. AnswersName (seen_told (S.folder self.old.system.now) (names_of (map (λ word. word.now) self.old.words.now))) name.now found) }
+        requires { position (λ other. bytes_eq other name.now) (names_in self.old.words.now) ≡ Some number }
+        ensures answer { IfOk result (λ found. AnswersName (seen_told (S.folder self.old.system.now) (names_in self.old.words.now)) name.now found) }
         ensures known { IfOk result (λ found. known_at number (get_or self.new.places.items number Unsought) ≡ Some found) }
         ensures keeps { KeepsPlaces self.old.places.items self.new.places.items }
         ensures same { self.new.system ≡ self.old.system }
@@ -198,8 +198,8 @@ impl<'r, S: System> DirFiles<'r, S> {
 
     // What there is of this name.
     fn look(&mut self, name: &str) -> io::Result<Found>
-        ensures answer { IfOk result (λ found. AnswersName (seen_told (S.folder self.old.system.now) (names_of (map (λ word. word.now) self.old.words.now))) name.now found) }
-        ensures known { IfOk result (λ found. IsKnown (known_in (names_of (map (λ word. word.now) self.old.words.now)) self.new.places.items) name.now found) }
+        ensures answer { IfOk result (λ found. AnswersName (seen_told (S.folder self.old.system.now) (names_in self.old.words.now)) name.now found) }
+        ensures known { IfOk result (λ found. IsKnown (known_in (names_in self.old.words.now) self.new.places.items) name.now found) }
         ensures found { IfOk result (λ found. IsAnswered found) }
         ensures keeps { KeepsPlaces self.old.places.items self.new.places.items }
         ensures same { self.new.system ≡ self.old.system }
@@ -215,8 +215,8 @@ impl<'r, S: System> DirFiles<'r, S> {
 
     // Fills the buffer from this offset of a file on.
     fn fill(&self, id: u32, offset: u64, buf: &mut [u8]) -> io::Result<()>
-        requires { HasRange (seen_told (S.folder self.now.system.now) (names_of (map (λ word. word.now) self.now.words.now))) id offset (length buf.old) }
-        ensures { OnOk result (HoldsRange (seen_told (S.folder self.now.system.now) (names_of (map (λ word. word.now) self.now.words.now))) id offset buf.new) }
+        requires { HasRange (seen_told (S.folder self.now.system.now) (names_in self.now.words.now)) id offset (length buf.old) }
+        ensures { OnOk result (HoldsRange (seen_told (S.folder self.now.system.now) (names_in self.now.words.now)) id offset buf.new) }
     {
         match self.places.get(id as usize) {
             Some(place) => place.read(offset, buf),
@@ -240,9 +240,9 @@ impl<'r, S: System> DirFiles<'r, S> {
 }
 
 impl<S: System> Files for DirFiles<'_, S> {
-    ghost holds = { λ f. seen_told (S.folder f.system.now) (names_of (map (λ word. word.now) f.words.now)) };
+    ghost holds = { λ f. seen_told (S.folder f.system.now) (names_in f.words.now) };
 
-    ghost known = { λ f. known_in (names_of (map (λ word. word.now) f.words.now)) f.places.items };
+    ghost known = { λ f. known_in (names_in f.words.now) f.places.items };
 
     ghost notes = { λ _. no_notes };
 
@@ -291,7 +291,7 @@ impl<S: System> Files for DirFiles<'_, S> {
 
     ghost known_stays = { λ a b led. led_stays a.words b.words a.places.items b.places.items led.1 led.2 };
 
-    ghost known_apart = { λ f. places_apart (names_of (map (λ word. word.now) f.words.now)) f.places.items };
+    ghost known_apart = { λ f. places_apart (names_in f.words.now) f.places.items };
 
     ghost open_grows = { λ _ _ led. led.3 };
 

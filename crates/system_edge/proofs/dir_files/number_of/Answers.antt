@@ -1,5 +1,4 @@
-use Rattle.std.proofs.Common.{◌+◌, ◌∙◌, sym, Some, length, map, position, bytes_eq, Bor, List, ℕ}
-use Rattle.system_edge.specs.Named.{names_of}
+use Rattle.std.proofs.Common.{◌+◌, ◌∙◌, sym, length}
 use Rattle.system_edge.proofs.Numbers.{word_number, inner_number, number_stands}
 use Rattle.system_edge.proofs.dir_files.number_of.Goals as goal
 

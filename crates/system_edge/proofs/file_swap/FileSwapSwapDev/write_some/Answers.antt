@@ -1,4 +1,4 @@
-use Rattle.std.proofs.Common.{◌≡◌, ◌*◌, length, rules, refl}
+use Rattle.std.proofs.Common.{◌*◌, refl}
 use Rattle.system_edge.specs.SwapFiles.{image_of}
 use Rattle.system_edge.specs.SwapWhole.{within_more}
 use Rattle.system_edge.proofs.SwapRanges.{are_whole, image_run, image_run_part}
