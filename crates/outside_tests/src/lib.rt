@@ -15,3 +15,5 @@ mod memory;
 mod real_files;
 #[cfg(test)]
 mod system;
+#[cfg(test)]
+mod told;

@@ -5,3 +5,4 @@ pub mod Learning
 pub mod Numbers
 pub mod Outputs
 pub mod SwapRanges
+pub mod CheckedPages

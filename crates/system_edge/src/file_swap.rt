@@ -113,6 +113,11 @@ impl<'r, S: System> FileSwap<'r, S> {
         }
     }
 
+    // The name of the file.
+    pub(crate) fn name(&self) -> &'r str {
+        self.name
+    }
+
     /// Why the last call that failed did.
     pub fn last_refusal(&self) -> Option<Refusal<'r>> {
         let error = self.fault?;

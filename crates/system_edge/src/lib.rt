@@ -3,6 +3,7 @@
 //! system's calls, and tells what it holds where the system tells.
 #![tactic(auto)]
 
+mod checked_swap;
 mod dir_files;
 mod file_swap;
 mod last_line;
@@ -11,6 +12,7 @@ mod own_file;
 mod place;
 mod refusal;
 
+pub use checked_swap::CheckedSwap;
 pub use dir_files::DirFiles;
 pub use file_swap::FileSwap;
 pub use io_edge::{Moved, Sink, SwapDev};
