@@ -26,7 +26,7 @@ pub use Rattle.step_units.proofs.PutUnits
 pub use Rattle.step_units.proofs.Numbers
 pub use Rattle.step_units.proofs.Telling
 pub use Rattle.step_units.proofs.Tables
-pub use Rattle.step_units.proofs.Begun
+pub use Rattle.step_units.proofs.Begun as BegunUnits
 pub use Rattle.step_units.proofs.Swapping
 pub use Rattle.step_units.proofs.Instructing
 pub use Rattle.step_units.proofs.Stepping

@@ -35,7 +35,7 @@ use Rattle.proc_run.specs.RunUnitsTouching.{RunsInSpace, WantsPage}
 use Rattle.proc_run.proofs.Instructing.{miss_wanted}
 use Rattle.proc_run.proofs.Stepping.{step_known}
 use Rattle.proc_run.proofs.RunsTouching.{frames_cover}
-use Rattle.proc_run.proofs.Begun.{whole_due}
+use Rattle.proc_run.proofs.BegunUnits.{whole_due}
 use Rattle.paged_model.specs.Steps.{other_begun}
 use Rattle.paged_laws.proofs.Acted.{own_awaits}
 use Rattle.proc_run.specs.declared.finishing.Begun.{Begun}
