@@ -22,9 +22,10 @@ static int common(const char *one, const char *other, char *to)
 	length = longest[m][n];
 	to[length] = 0;
 	for (i = m, j = n; i > 0 && j > 0;)
-		if (one[i - 1] == other[j - 1])
-			to[longest[i][j] - 1] = one[--i], j--;
-		else if (longest[i - 1][j] >= longest[i][j - 1])
+		if (one[i - 1] == other[j - 1]) {
+			to[longest[i][j] - 1] = one[i - 1];
+			i--, j--;
+		} else if (longest[i - 1][j] >= longest[i][j - 1])
 			i--;
 		else
 			j--;
