@@ -25,11 +25,17 @@ class Refused(Exception):
         self.signal, self.below = signal, below
 
 
+class NoImage(Exception):
+    """A file that is no image, by its name."""
+
+
 class Image:
     """An image of a.out(5): text, data with zeros after them, and how many bytes of the data its file has."""
 
     def __init__(self, name, content):
         magic, text, data, bss, _, self.entry, _, _ = (int.from_bytes(content[at:at + 4], "little") for at in range(0, 32, 4))
+        if magic not in (0o407, 0o410, 0o413) or len(content) < 32:
+            raise NoImage(name)
         at, self.name = 1024 if magic == 0o413 else 32, name
         if magic == 0o407:
             text, data = 0, text + data
