@@ -1,16 +1,16 @@
 //! What tests of a real folder share: they make, read and remove files there.
+ghost use Rattle.io_edge.specs.FileHolding.{HasRange};
+
 use io_edge::{Files, Moved};
 use std::alloc::Global;
 use std::process::Abort;
 use std::{fs, rt};
-use system_edge::{DirFiles, Refusal};
+use system_edge::Refusal;
 
 /// So many bytes of a file that was found, from an offset on; `None` where the read fails.
-pub fn bytes_at<const N: usize>(
-    files: &mut DirFiles<'_, HostRuntime>,
-    id: u32,
-    offset: u64,
-) -> Option<[u8; N]> {
+pub fn bytes_at<F: Files, const N: usize>(files: &mut F, id: u32, offset: u64) -> Option<[u8; N]>
+    requires { HasRange (F.holds files.old) id offset N }
+{
     let mut bytes = [0; N];
     match files.read_at(id, offset, &mut bytes) {
         Moved::Done => Some(bytes),

@@ -5,11 +5,13 @@ use crate::checks::{are, is};
 use crate::folder::{bytes_at, length_of, make, make_folder, remove, remove_folder, told};
 use io_edge::{Files, Found, Moved, SureSwap, SwapDev};
 use std::alloc::{AllocError, Global};
+use std::fs::File;
 use std::io::Write;
 use std::os::unix::fs::symlink;
 use std::os::unix::io::AsRawFd;
 use std::process::Abort;
 use std::{fs, io, rt};
+use system_calls::Host;
 use system_edge::{DirFiles, FileSwap};
 
 // The name of an open descriptor.
@@ -18,14 +20,17 @@ fn descriptor_name(alloc: Global, fd: i32) -> Result<String, AllocError> {
 }
 
 // Checks the pipe of this name, which has five bytes.
-fn is_read_whole_and_once(rt: &impl Abort, files: &mut DirFiles<'_, HostRuntime>, name: &str) {
+fn is_read_whole_and_once<R: Abort + rt::Files<File = File>>(rt: &R, alloc: Global, name: &str) {
+    let host = Host(rt);
+    let words = [name];
+    let mut files = DirFiles::new(alloc, &host, &words);
     let Found::Is { id, len } = files.find(name) else {
         panic!(rt; "not found");
     };
     let read = [
-        bytes_at(files, id, 2),
-        bytes_at(files, id, 0),
-        bytes_at(files, id, 3),
+        bytes_at(&mut files, id, 2),
+        bytes_at(&mut files, id, 0),
+        bytes_at(&mut files, id, 3),
     ];
     let again = files.find(name);
     assert_eq!(rt; (len, again), (5, Found::Is { id, len }));
@@ -39,16 +44,22 @@ fn reads_a_pipe_whole_and_once(rt: HostRuntime) {
     drop(writer);
     let name = descriptor_name(rt.alloc(), reader.as_raw_fd());
     let name = name.expect(&rt, "memory for a name");
-    is_read_whole_and_once(&rt, &mut DirFiles::new(&rt), name.as_str());
+    is_read_whole_and_once(&rt, rt.alloc(), name.as_str());
 }
 
 // Checks a file of /proc, and one that has no bytes.
-fn are_read_with_no_length(rt: &impl Abort, files: &mut DirFiles<'_, HostRuntime>) {
+fn are_read_with_no_length<R: Abort + rt::Files<File = File>>(rt: &R, alloc: Global) {
+    let host = Host(rt);
+    let words = ["/proc/self/statm", "/dev/null"];
+    let mut files = DirFiles::new(alloc, &host, &words);
     let Found::Is { id, len } = files.find("/proc/self/statm") else {
         panic!(rt; "not found");
     };
     assert!(rt; len > 0);
-    let last = [bytes_at(files, id, len - 1), bytes_at(files, id, len)];
+    let last = [
+        bytes_at(&mut files, id, len - 1),
+        bytes_at(&mut files, id, len),
+    ];
     let null = files.find("/dev/null");
     assert_eq!(rt; last, [Some([b'\n']), None]);
     assert!(rt; matches!(null, Found::Is { len: 0, .. }), "{null:?}");
@@ -57,18 +68,21 @@ fn are_read_with_no_length(rt: &impl Abort, files: &mut DirFiles<'_, HostRuntime
 // The system says the length 0 of files of /proc, and they have bytes.
 #[test]
 fn reads_what_has_no_length_by_the_system(rt: HostRuntime) {
-    are_read_with_no_length(&rt, &mut DirFiles::new(&rt));
+    are_read_with_no_length(&rt, rt.alloc());
 }
 
 // Checks what is told of a folder, and of a file of five bytes.
-fn are_named_where_refused(rt: &impl Abort, alloc: Global, files: &mut DirFiles<'_, HostRuntime>) {
+fn are_named_where_refused<R: Abort + rt::Files<File = File>>(rt: &R, alloc: Global) {
+    let host = Host(rt);
+    let words = ["refused.folder", "short.file"];
+    let mut files = DirFiles::new(alloc, &host, &words);
     let at_first = files.last_refusal().is_none();
     let found = files.find("refused.folder");
     let of_folder = told(alloc, files.last_refusal());
     let Found::Is { id, .. } = files.find("short.file") else {
         panic!(rt; "not found");
     };
-    let read: Option<[u8; 9]> = bytes_at(files, id, 0);
+    let read: Option<[u8; 9]> = bytes_at(&mut files, id, 0);
     let of_file = told(alloc, files.last_refusal());
     assert_eq!(rt; (at_first, found, read), (true, Found::Failed, None));
     assert_eq!(rt;
@@ -84,7 +98,7 @@ fn are_named_where_refused(rt: &impl Abort, alloc: Global, files: &mut DirFiles<
 fn names_the_file_that_the_system_refused(rt: HostRuntime) {
     make_folder(&rt, "refused.folder");
     make(&rt, "short.file", "hello");
-    are_named_where_refused(&rt, rt.alloc(), &mut DirFiles::new(&rt));
+    are_named_where_refused(&rt, rt.alloc());
     remove_folder(&rt, "refused.folder");
     remove(&rt, "short.file");
 }
@@ -123,7 +137,8 @@ static GROWN: [(Call, Answer); 8] = [
 
 #[test]
 fn grows_its_file_as_it_is_written(rt: HostRuntime) {
-    let mut swap = FileSwap::new(&rt, "grown.swap", 65_536);
+    let host = Host(&rt);
+    let mut swap = FileSwap::new(&host, "grown.swap", 65_536);
     grows(&rt, &mut swap, "grown.swap", &GROWING);
     answers(&rt, &mut swap, &GROWN);
     remove(&rt, "grown.swap");
@@ -145,8 +160,9 @@ static TAKEN: [(Call, Answer); 2] = [
 
 #[test]
 fn has_its_file_for_itself(rt: HostRuntime) {
-    let mut first = FileSwap::new(&rt, "one.swap", 8);
-    let mut second = FileSwap::new(&rt, "one.swap", 8);
+    let host = Host(&rt);
+    let mut first = FileSwap::new(&host, "one.swap", 8);
+    let mut second = FileSwap::new(&host, "one.swap", 8);
     answers(&rt, &mut first, &WRITTEN);
     answers(&rt, &mut second, &REFUSED);
     let why = told(rt.alloc(), second.last_refusal());
@@ -160,7 +176,8 @@ fn has_its_file_for_itself(rt: HostRuntime) {
 
 // How a device on this name answers a write, and what it tells of that.
 fn answered(rt: &HostRuntime, name: &str) -> (Moved, String) {
-    let mut swap = FileSwap::new(rt, name, 8);
+    let host = Host(rt);
+    let mut swap = FileSwap::new(&host, name, 8);
     let moved = swap.write(0, &[5; 1024]);
     (moved, told(rt.alloc(), swap.last_refusal()))
 }

@@ -1,27 +1,35 @@
 //! The adapters over the system: a real folder, an output that takes little at a time, and a disk that is full. No
 //! clause can say what a disk gives.
-ghost use Rattle.std.specs.Prelude.{None};
+ghost use Rattle.std.specs.Prelude.{None, false};
 
 use crate::calls::{Answer, Call, answers};
 use crate::checks::is;
 use crate::folder::{bytes_at, length_of, make, make_folder, remove, remove_folder};
 use io_edge::{Files, Found, Moved, Sink, SureSwap, SwapDev, SwapPair};
 use std::alloc::{Allocator, Global};
-use std::cell::Cell;
-use std::fmt::Display;
-use std::fs::{Metadata, OpenFile, OpenOptions};
-use std::io::{ErrorKind, Read, Seek, SeekFrom, Write};
+use std::fs::{File, OpenOptions};
+use std::io::ErrorKind;
 use std::process::Abort;
 use std::{fs, io, rt};
-use system_edge::{DirFiles, FileSwap, LockFile, OffsetFile, OutSink};
+use system_calls::{FileFacts, Host, System, SystemFile, SystemOutput};
+use system_edge::{DirFiles, FileSwap, OutSink};
 
 // Checks what is found of a folder with the file `some.file` of five bytes and a folder.
-fn absent_is_told_from_unread(rt: &impl Abort, files: &mut DirFiles<'_, HostRuntime>) {
+fn absent_is_told_from_unread<R: Abort + rt::Files<File = File>>(rt: &R, alloc: Global) {
+    let host = Host(rt);
+    let words = [
+        "none.file",
+        "some.file",
+        "some.file/inside",
+        "some.folder/inside",
+        "some.folder",
+    ];
+    let mut files = DirFiles::new(alloc, &host, &words);
     let none = files.find("none.file");
     let Found::Is { id, len } = files.find("some.file") else {
         panic!(rt; "not found");
     };
-    let read = [bytes_at(files, id, 2), bytes_at(files, id, 3)];
+    let read = [bytes_at(&mut files, id, 2), bytes_at(&mut files, id, 3)];
 
     // A file has no files in it: whether there is one can't be told.
     let inside = [
@@ -38,7 +46,7 @@ fn absent_is_told_from_unread(rt: &impl Abort, files: &mut DirFiles<'_, HostRunt
 fn an_absent_file_is_told_from_one_that_cannot_be_read(rt: HostRuntime) {
     make(&rt, "some.file", "hello");
     make_folder(&rt, "some.folder");
-    absent_is_told_from_unread(&rt, &mut DirFiles::new(&rt));
+    absent_is_told_from_unread(&rt, rt.alloc());
     remove(&rt, "some.file");
     remove_folder(&rt, "some.folder");
 }
@@ -55,28 +63,32 @@ fn unlike(rt: &impl Abort, alloc: Global, count: u32) -> Vec<u8> {
 }
 
 // Checks the pages of the file `some.image` from these places on, and its end.
-fn is_read_as(
-    rt: &impl Abort,
-    files: &mut DirFiles<'_, HostRuntime>,
+fn is_read_as<R: Abort + rt::Files<File = File>>(
+    rt: &R,
+    alloc: Global,
     bytes: &[u8],
     starts: &[usize],
 ) {
+    let host = Host(rt);
+    let words = ["some.image"];
+    let mut files = DirFiles::new(alloc, &host, &words);
     let Found::Is { id, len } = files.find("some.image") else {
         panic!(rt; "not found");
     };
     assert_eq!(rt; len, 2080);
     for start in starts {
         let end = start.saturating_add(1024);
-        let Some(page) = bytes_at::<1024>(files, id, *start as u64) else {
+        let Some(page): Option<[u8; 1024]> = bytes_at(&mut files, id, *start as u64) else {
             panic!(rt; "not read at {start}");
         };
         assert_eq!(rt; bytes.get(*start..end), Some(page.as_slice()), "at {start}");
     }
-    let Some(rest) = bytes_at::<4>(files, id, 2076) else {
+    let Some(rest): Option<[u8; 4]> = bytes_at(&mut files, id, 2076) else {
         panic!(rt; "not read at the end");
     };
     assert_eq!(rt; bytes.get(2076..2080), Some(rest.as_slice()));
-    assert_eq!(rt; bytes_at::<4>(files, id, 2077), None);
+    let behind: Option<[u8; 4]> = bytes_at(&mut files, id, 2077);
+    assert_eq!(rt; behind, None);
 }
 
 // The text of an image that isn't paged begins after its header of 32 bytes, so its pages begin at no multiple of 1,024.
@@ -84,67 +96,42 @@ fn is_read_as(
 fn a_page_is_read_from_where_it_begins(rt: HostRuntime) {
     let bytes = unlike(&rt, rt.alloc(), 2080);
     fs::write(&rt, "some.image", bytes.as_slice()).expect(&rt, "a file that is made");
-    is_read_as(
-        &rt,
-        &mut DirFiles::new(&rt),
-        bytes.as_slice(),
-        &[32, 1056, 0, 1055],
-    );
+    is_read_as(&rt, rt.alloc(), bytes.as_slice(), &[32, 1056, 0, 1055]);
     remove(&rt, "some.image");
 }
 
-// A standard output that takes two bytes at a time, and no more than five.
+// An output that takes two bytes at a time, and no more than five. It doesn't tell what it took.
 #[derive(Drop)]
 struct NarrowOutput {
-    taken: Cell<usize>,
+    taken: usize,
 
     // The bytes that it took, as the digits of a number.
-    digits: Cell<u32>,
+    digits: u32,
 }
 
-impl Print for NarrowOutput {
-    fn print<D: Display + Drop>(&self, _value: D) -> io::Result<()> {
-        Err(io::Error::from(ErrorKind::Unsupported))
-    }
+impl SystemOutput for NarrowOutput {
+    ghost taken = { λ _. None };
 
-    fn println<D: Display + Drop>(&self, _value: D) -> io::Result<()> {
-        Err(io::Error::from(ErrorKind::Unsupported))
-    }
-
-    fn write_all(&self, _bytes: &[u8]) -> io::Result<()> {
-        Err(io::Error::from(ErrorKind::Unsupported))
-    }
-
-    fn write_some(&self, bytes: &[u8]) -> io::Result<usize> {
-        let taken = self.taken.get();
-        let count = bytes.len().min(2).min(5usize.saturating_sub(taken));
-        let mut digits = self.digits.get();
+    fn write_some(&mut self, bytes: &[u8]) -> io::Result<usize> {
+        let count = bytes.len().min(2).min(5usize.saturating_sub(self.taken));
         for byte in bytes.iter().take(count) {
-            digits = digits.wrapping_mul(10).wrapping_add(u32::from(*byte));
+            self.digits = self.digits.wrapping_mul(10).wrapping_add(u32::from(*byte));
         }
-        self.digits.set(digits);
-        self.taken.set(taken.saturating_add(count));
+        self.taken = self.taken.saturating_add(count);
         Ok(count)
     }
 }
 
 #[test]
 fn a_piece_is_written_in_parts_until_output_takes_nothing(rt: HostRuntime) {
-    let output = NarrowOutput {
-        taken: Cell::new(0),
-        digits: Cell::new(0),
+    let mut output = NarrowOutput {
+        taken: 0,
+        digits: 0,
     };
-    let mut sink = OutSink::new(&output);
-    let first = (
-        sink.put(&[1, 2, 3]),
-        output.taken.get(),
-        output.digits.get(),
-    );
-    let second = (
-        sink.put(&[4, 5, 6]),
-        output.taken.get(),
-        output.digits.get(),
-    );
+    let first = OutSink::new(&mut output).put(&[1, 2, 3]);
+    let first = (first, output.taken, output.digits);
+    let second = OutSink::new(&mut output).put(&[4, 5, 6]);
+    let second = (second, output.taken, output.digits);
     is(
         &rt,
         &[first, second],
@@ -179,7 +166,8 @@ static CUT_SHORT: [(Call, Answer); 2] = [
 
 #[test]
 fn a_swap_file_holds_each_page_apart(rt: HostRuntime) {
-    let mut swap = FileSwap::new(&rt, "some.swap", 8);
+    let host = Host(&rt);
+    let mut swap = FileSwap::new(&host, "some.swap", 8);
     let at_first = (swap.blocks(), length_of(&rt, "some.swap"));
     is(&rt, &at_first, &(8, None));
     answers(&rt, &mut swap, &WHOLE);
@@ -188,7 +176,7 @@ fn a_swap_file_holds_each_page_apart(rt: HostRuntime) {
     remove(&rt, "some.swap");
 }
 
-// A file system whose disk gets full: a file takes a page and no more.
+// A system whose disk gets full: a file takes a page and no more. It doesn't tell what files hold.
 #[derive(Drop)]
 struct FullDisk;
 
@@ -202,116 +190,69 @@ fn disk_full() -> io::Error {
     io::Error::from(ErrorKind::StorageFull)
 }
 
-impl Read for FullFile {
-    fn read(&mut self, _buf: &mut [u8]) -> io::Result<usize> {
-        Ok(0)
-    }
-}
+impl SystemFile for FullFile {
+    ghost bytes = { λ _. None };
 
-impl Write for FullFile {
-    fn write(&mut self, buf: &[u8]) -> io::Result<usize> {
-        let count = buf.len().min(self.room);
-        if count == 0 {
-            return Err(disk_full());
-        }
-        self.room = self.room.saturating_sub(count);
-        Ok(count)
-    }
-
-    fn flush(&mut self) -> io::Result<()> {
-        Ok(())
-    }
-}
-
-impl Seek for FullFile {
-    fn seek(&mut self, _to: SeekFrom) -> io::Result<u64> {
-        Ok(0)
-    }
-}
-
-impl OpenFile for FullFile {
-    fn metadata(&self) -> io::Result<Metadata> {
+    fn facts(&self) -> io::Result<FileFacts> {
         Err(disk_full())
     }
-
-    fn set_len(&self, _size: u64) -> io::Result<()> {
-        Ok(())
-    }
-
-    fn sync_all(&self) -> io::Result<()> {
-        Ok(())
-    }
-
-    fn sync_data(&self) -> io::Result<()> {
-        Ok(())
-    }
-}
-
-impl LockFile for FullFile {
-    fn try_lock_exclusive(&self) -> io::Result<()> {
-        Ok(())
-    }
-
-    fn try_share(&self) -> io::Result<()> {
-        Ok(())
-    }
-}
-
-impl OffsetFile for FullFile {
-    ghost bytes = { λ _. None };
 
     fn read_range(&self, _offset: u64, _buf: &mut [u8]) -> io::Result<()> {
         Err(io::Error::from(ErrorKind::UnexpectedEof))
     }
 
     fn write_range(&mut self, _offset: u64, piece: &[u8]) -> io::Result<()> {
-        self.write_all(piece)
+        let is_full = piece.len() > self.room;
+        self.room = self.room.saturating_sub(piece.len());
+        if is_full { Err(disk_full()) } else { Ok(()) }
+    }
+
+    fn empty(&mut self) -> io::Result<()> {
+        Ok(())
+    }
+
+    fn read_start<A: Allocator>(&mut self, alloc: A, _most: u64) -> io::Result<Vec<u8, A>> {
+        Ok(Vec::new(alloc))
+    }
+
+    fn lock_alone(&self) -> io::Result<()> {
+        Ok(())
+    }
+
+    fn lock_shared(&self) -> io::Result<()> {
+        Ok(())
+    }
+
+    fn keep_private(&self) -> io::Result<()> {
+        Ok(())
     }
 }
 
-impl rt::Files for FullDisk {
+impl System for FullDisk {
     type File = FullFile;
 
-    type Dir = FullFile;
+    ghost folder = { λ _. None };
 
-    fn open_file(&self, _how: &OpenOptions, _path: &str) -> io::Result<FullFile> {
+    ghost tells = { λ _. false };
+
+    fn open(&self, _name: &str) -> io::Result<Option<FullFile>> {
+        Ok(None)
+    }
+
+    fn open_to_write(&self, _name: &str) -> io::Result<FullFile> {
+        Err(disk_full())
+    }
+
+    fn make(&self, _name: &str) -> io::Result<FullFile> {
         Ok(FullFile { room: 1024 })
     }
 
-    fn open_dir(&self, _path: &str) -> io::Result<FullFile> {
+    fn facts_of(&self, _name: &str) -> io::Result<FileFacts> {
         Err(disk_full())
     }
 
-    fn metadata(&self, _path: &str) -> io::Result<Metadata> {
-        Err(disk_full())
-    }
-
-    fn symlink_metadata(&self, _path: &str) -> io::Result<Metadata> {
-        Err(disk_full())
-    }
-
-    fn copy(&self, _from: &str, _to: &str) -> io::Result<u64> {
-        Err(disk_full())
-    }
-
-    fn rename(&self, _from: &str, _to: &str) -> io::Result<()> {
-        Err(disk_full())
-    }
-
-    fn remove_file(&self, _path: &str) -> io::Result<()> {
-        Err(disk_full())
-    }
-
-    fn create_dir(&self, _path: &str) -> io::Result<()> {
-        Err(disk_full())
-    }
-
-    fn remove_dir(&self, _path: &str) -> io::Result<()> {
-        Err(disk_full())
-    }
-
-    fn remove_dir_all<B: Allocator>(&self, _alloc: B, _path: &str) -> io::Result<()> {
-        Err(disk_full())
+    fn user(&self) -> Option<u32> {
+        None
     }
 }
 
@@ -322,7 +263,12 @@ static WITH_ROOM: [(Call, Answer); 2] = [
 
 static WITH_NONE: [(Call, Answer); 1] = [(Call::Write(1026, 1), Answer::Failed)];
 
-static READ_BACK: [(Call, Answer); 1] = [(Call::Read(1024), Answer::Failed)];
+static READ_BACK: [(Call, Answer); 3] = [
+    (Call::Read(1024), Answer::Failed),
+    // Of the write that failed some may be on the disk: the file counts as long as that was to make it, and what is past it is zeros.
+    (Call::Read(1026), Answer::Failed),
+    (Call::Read(1028), Answer::Filled(0)),
+];
 
 #[test]
 fn what_the_system_refuses_fails(rt: HostRuntime) {
