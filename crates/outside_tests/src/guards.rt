@@ -274,11 +274,11 @@ fn is_last_line(pieces: &[&str], line: &str) -> bool {
 
 // How many bytes are kept of a line of so many pieces of eight bytes each.
 fn kept_of(pieces: usize) -> usize {
-    let output = RefusingOutput {
+    let mut output = RefusingOutput {
         error: ErrorKind::Other,
-        times: Cell::new(0),
+        times: 0,
     };
-    let mut sink = OutSink::new(&output);
+    let mut sink = OutSink::new(&mut output);
     for _ in 0..pieces {
         let _ = sink.put(b"8 bytes ");
     }
